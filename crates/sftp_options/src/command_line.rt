@@ -399,21 +399,31 @@ fn command<'a>(alloc: Global, version: &'a str) -> Result<Command<'a>, AllocErro
         .about(help::ABOUT)
         .after_help(help::STATUSES)
         .subcommand_required(true);
-    let command = with_subcommand(command, serve_command(alloc))?;
-    let command = with_subcommand(command, audit_command(alloc))?;
-    let command = with_subcommand(command, show_command(alloc))?;
-    let command = with_subcommand(command, make_command(alloc))?;
+    let serve = described(alloc, "serve", help::ABOUT_SERVE, help::AFTER_SERVE, SERVE);
+    let command = with_subcommand(command, serve)?;
+    let audit = described(alloc, "audit", help::ABOUT_AUDIT, help::AFTER_AUDIT, AUDIT);
+    let command = with_subcommand(command, audit)?;
+    let show = described(alloc, "show", help::ABOUT_SHOW, help::AFTER_SHOW, SHOW);
+    let command = with_subcommand(command, show)?;
+    let make = described(alloc, "make", help::ABOUT_MAKE, help::AFTER_MAKE, MAKE);
+    let command = with_subcommand(command, make)?;
     with_tree_commands(alloc, command)
 }
 
 /// The command with the subcommands that compare or make trees.
 fn with_tree_commands<'a>(alloc: Global, command: Command<'a>) -> Result<Command<'a>, AllocError> {
-    let command = with_subcommand(command, diff_command(alloc))?;
-    let command = with_subcommand(command, infer_command(alloc))?;
-    let command = with_subcommand(command, import_command(alloc))?;
-    let command = with_subcommand(command, export_command(alloc))?;
-    let command = with_subcommand(command, raise_command(alloc))?;
-    with_subcommand(command, blank_command(alloc))
+    let diff = described(alloc, "diff", help::ABOUT_DIFF, help::AFTER_DIFF, DIFF);
+    let command = with_subcommand(command, diff)?;
+    let infer = described(alloc, "infer", help::ABOUT_INFER, help::AFTER_INFER, INFER);
+    let command = with_subcommand(command, infer)?;
+    let import = described(alloc, "import", help::ABOUT_IMPORT, help::AFTER_IMPORT, IMPORT);
+    let command = with_subcommand(command, import)?;
+    let export = described(alloc, "export", help::ABOUT_EXPORT, help::AFTER_EXPORT, EXPORT);
+    let command = with_subcommand(command, export)?;
+    let raise = described(alloc, "raise", help::ABOUT_RAISE, help::AFTER_RAISE, RAISE);
+    let command = with_subcommand(command, raise)?;
+    let blank = Command::new(alloc, "blank").about(help::ABOUT_BLANK);
+    with_subcommand(command, with_arguments(alloc, blank, BLANK))
 }
 
 /// The command with a further subcommand.
@@ -430,72 +440,16 @@ fn with_subcommand<'a>(
     }
 }
 
-fn serve_command<'a>(alloc: Global) -> Result<Command<'a>, AllocError> {
-    let command = Command::new(alloc, "serve")
-        .about(help::ABOUT_SERVE)
-        .after_help(help::AFTER_SERVE);
-    with_arguments(alloc, command, SERVE)
-}
-
-fn audit_command<'a>(alloc: Global) -> Result<Command<'a>, AllocError> {
-    let command = Command::new(alloc, "audit")
-        .about(help::ABOUT_AUDIT)
-        .after_help(help::AFTER_AUDIT);
-    with_arguments(alloc, command, AUDIT)
-}
-
-fn show_command<'a>(alloc: Global) -> Result<Command<'a>, AllocError> {
-    let command = Command::new(alloc, "show")
-        .about(help::ABOUT_SHOW)
-        .after_help(help::AFTER_SHOW);
-    with_arguments(alloc, command, SHOW)
-}
-
-fn make_command<'a>(alloc: Global) -> Result<Command<'a>, AllocError> {
-    let command = Command::new(alloc, "make")
-        .about(help::ABOUT_MAKE)
-        .after_help(help::AFTER_MAKE);
-    with_arguments(alloc, command, MAKE)
-}
-
-fn diff_command<'a>(alloc: Global) -> Result<Command<'a>, AllocError> {
-    let command = Command::new(alloc, "diff")
-        .about(help::ABOUT_DIFF)
-        .after_help(help::AFTER_DIFF);
-    with_arguments(alloc, command, DIFF)
-}
-
-fn infer_command<'a>(alloc: Global) -> Result<Command<'a>, AllocError> {
-    let command = Command::new(alloc, "infer")
-        .about(help::ABOUT_INFER)
-        .after_help(help::AFTER_INFER);
-    with_arguments(alloc, command, INFER)
-}
-
-fn import_command<'a>(alloc: Global) -> Result<Command<'a>, AllocError> {
-    let command = Command::new(alloc, "import")
-        .about(help::ABOUT_IMPORT)
-        .after_help(help::AFTER_IMPORT);
-    with_arguments(alloc, command, IMPORT)
-}
-
-fn export_command<'a>(alloc: Global) -> Result<Command<'a>, AllocError> {
-    let command = Command::new(alloc, "export")
-        .about(help::ABOUT_EXPORT)
-        .after_help(help::AFTER_EXPORT);
-    with_arguments(alloc, command, EXPORT)
-}
-
-fn raise_command<'a>(alloc: Global) -> Result<Command<'a>, AllocError> {
-    let command = Command::new(alloc, "raise")
-        .about(help::ABOUT_RAISE)
-        .after_help(help::AFTER_RAISE);
-    with_arguments(alloc, command, RAISE)
-}
-
-fn blank_command<'a>(alloc: Global) -> Result<Command<'a>, AllocError> {
-    let command = Command::new(alloc, "blank").about(help::ABOUT_BLANK);
-    with_arguments(alloc, command, BLANK)
+/// The subcommand of this name, with what help says of it and behind it.
+fn described<'a>(
+    alloc: Global,
+    name: &'a str,
+    about: &'a str,
+    after: &'a str,
+    arguments: &'a [Argument<'a>],
+) -> Result<Command<'a>, AllocError> {
+    let command = Command::new(alloc, name).about(about).after_help(after);
+    with_arguments(alloc, command, arguments)
 }
 
 /// The command with further arguments.
@@ -506,42 +460,23 @@ fn with_arguments<'a>(
 ) -> Result<Command<'a>, AllocError> {
     let mut command = command;
     for (name, form, help) in arguments {
-        command = with_argument(command, new_argument(alloc, name, *form, help))?;
+        command = command.arg(new_argument(alloc, name, *form, help))?;
     }
     Ok(command)
 }
 
-/// The command with a further argument.
-fn with_argument<'a>(
-    command: Command<'a>,
-    argument: Result<Arg<'a>, AllocError>,
-) -> Result<Command<'a>, AllocError> {
-    match argument {
-        Ok(argument) => command.arg(argument),
-        Err(error) => {
-            drop(command);
-            Err(error)
-        }
-    }
-}
-
-fn new_argument<'a>(
-    alloc: Global,
-    name: &'a str,
-    form: Form<'a>,
-    help: &'a str,
-) -> Result<Arg<'a>, AllocError> {
+fn new_argument<'a>(alloc: Global, name: &'a str, form: Form<'a>, help: &'a str) -> Arg<'a> {
     let arg = Arg::new(alloc, name).help(help);
     match form {
-        Form::Flag => Ok(arg.long(name).action(ArgAction::SetTrue)),
-        Form::Place(label) => Ok(valued(arg, label).required(true)),
-        Form::Required(label) => Ok(valued(arg.long(name), label).required(true)),
-        Form::Optional(label) => Ok(valued(arg.long(name), label)),
+        Form::Flag => arg.long(name).action(ArgAction::SetTrue),
+        Form::Place(label) => valued(arg, label).required(true),
+        Form::Required(label) => valued(arg.long(name), label).required(true),
+        Form::Optional(label) => valued(arg.long(name), label),
         Form::Number(label) => {
-            Ok(valued(arg.long(name), label).value_parser(value_parser!(u64)))
+            valued(arg.long(name), label).value_parser(value_parser!(u64))
         }
-        Form::OneOf(label, values) => Ok(valued(arg.long(name), label).value_parser(values)),
-        Form::SomeOf(label, values) => Ok(listed(arg.long(name), label, values)),
+        Form::OneOf(label, values) => valued(arg.long(name), label).value_parser(values),
+        Form::SomeOf(label, values) => listed(arg.long(name), label, values),
     }
 }
 

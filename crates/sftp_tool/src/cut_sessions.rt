@@ -192,8 +192,22 @@ fn accept_cut<'a, R: System, O: Write>(
 {
     keep_end(rt, files, &ended.tree)?;
     let counts = counts_of(ended);
+    say_accepted(counts, Some(counts.others()), files, output)
+}
+
+/// Says that a session is accepted, and how many requests there are of each kind: as an object, which has the others of
+/// a session alone that may have been cut, or as a line.
+pub(crate) fn say_accepted<'a, O: Write>(
+    counts: Counts,
+    others: Option<(u64, u64)>,
+    files: &AuditOptions<'a>,
+    output: &mut O,
+) -> Result<Ending, Failure<'a>>
+    ensures ok { IfOk result (λ ending. ending ≡ endings.Done) }
+    ensures err { IfErr result IsUnwritten }
+{
     if files.is_json {
-        return print_accepted(counts.judged, Some(counts.others()), output);
+        return print_accepted(counts.judged, others, output);
     }
     print(output, format_args!("{counts}\n"), Ending::Done)
 }

@@ -26,40 +26,50 @@ pub(crate) fn explain<'s, 'a, R: Files + AllocGlobal, E: Write>(
     rt: &'s R,
     files: &'s AuditOptions<'a>,
     tree: Kept<'s>,
-    left_out: &'s mut LeftOut,
+    left_out: &mut LeftOut,
     refusal: Refusal,
-    errors: &'s mut E,
+    errors: &mut E,
 ) {
-    let mut explanation = Explanation {
+    let refused = Refused {
         rt,
         files,
         tree,
-        left_out,
         refusal,
+    };
+    let mut explanation = Explanation {
+        refused: &refused,
+        left_out,
         errors,
         stopped_by: None,
     };
     explanation.put();
     explanation.finish();
     drop(explanation);
+    drop(refused);
 }
 
-/// The explanation of a refusal. A step that returns false stops it, and the reason is noted.
+/// A session that is refused.
 #[derive(Drop)]
-struct Explanation<'s, 'a, R, E> {
+struct Refused<'s, 'a, R> {
     rt: &'s R,
     files: &'s AuditOptions<'a>,
     /// The tree that the session starts from.
     tree: Kept<'s>,
-    /// What the session goes on without.
-    left_out: &'s mut LeftOut,
     refusal: Refusal,
+}
+
+/// The explanation of a refusal. A step that returns false stops it, and the reason is noted.
+#[derive(Drop)]
+struct Explanation<'e, 's, 'a, R, E> {
+    refused: &'e Refused<'s, 'a, R>,
+    /// What the session goes on without.
+    left_out: &'e mut LeftOut,
     /// Where the lines go.
-    errors: &'s mut E,
+    errors: &'e mut E,
     stopped_by: Option<Unexplained>,
 }
 
-impl<R: Files + AllocGlobal, E: Write> Explanation<'_, '_, R, E> {
+impl<R: Files + AllocGlobal, E: Write> Explanation<'_, '_, '_, R, E> {
     /// Notes why the explanation stops, unless it has stopped before. Returns false.
     fn stop(&mut self, reason: Unexplained) -> bool {
         if self.stopped_by.is_none() {
@@ -78,7 +88,7 @@ impl<R: Files + AllocGlobal, E: Write> Explanation<'_, '_, R, E> {
 
     /// Writes the lines of the refusal.
     fn put(&mut self) -> bool {
-        let found = self.found(record_of(self.refusal));
+        let found = self.found(record_of(self.refused.refusal));
         let put = self.put_refusal(&found);
         drop(found);
         put
@@ -94,7 +104,7 @@ impl<R: Files + AllocGlobal, E: Write> Explanation<'_, '_, R, E> {
 
     /// Writes the lines of the refusal, which names this record.
     fn put_reason(&mut self, found: &Record) -> bool {
-        match self.refusal {
+        match self.refused.refusal {
             Refusal::UnknownReply { .. } => self.put_unknown_reply(found),
             Refusal::IdInUse { .. } => self.put_used_id(found),
             Refusal::Window { .. } => self.put_late_request(found),
@@ -110,6 +120,12 @@ impl<R: Files + AllocGlobal, E: Write> Explanation<'_, '_, R, E> {
             Ok(()) => true,
             Err(error) => self.stop(Unexplained::from(error)),
         }
+    }
+
+    /// Writes a line of text.
+    fn put_text(&mut self, label: &str, text: &str) -> bool {
+        let written = writeln!(self.errors, "{label}: {text}");
+        self.is_written(written)
     }
 
     /// Whether a line was written. If not, the explanation stops.
@@ -138,11 +154,7 @@ impl<R: Files + AllocGlobal, E: Write> Explanation<'_, '_, R, E> {
 
     /// That no request has the id of the reply, unless the search for it was stopped.
     fn put_unasked(&mut self) -> bool {
-        if self.stopped_by.is_some() {
-            return false;
-        }
-        let written = writeln!(self.errors, "request: none has this id");
-        self.is_written(written)
+        self.stopped_by.is_none() && self.put_text("request", "none has this id")
     }
 
     /// `IdInUse`: the request, and the unanswered one of the same id.
@@ -184,6 +196,6 @@ impl<R: Files + AllocGlobal, E: Write> Explanation<'_, '_, R, E> {
 
     /// The profile by which the session was judged. Where that was done strictly, the strict one permits the same.
     fn profile(&self) -> Profile {
-        self.files.profile.unwrap_or(Profile::strict())
+        self.refused.files.profile.unwrap_or(Profile::strict())
     }
 }

@@ -275,12 +275,6 @@ enum Halt {
     Ended(End),
 }
 
-impl From<End> for Halt {
-    fn from(end: End) -> Halt {
-        Halt::Ended(end)
-    }
-}
-
 impl From<AuditError> for Halt {
     fn from(error: AuditError) -> Halt {
         match error {
@@ -340,19 +334,32 @@ fn judge_file<R: System>(
     left_out: &mut LeftOut,
     follows: &mut bool,
 ) -> Result<Counts, Halt> {
-    let file = opened(open(rt, files.transcript))?;
+    let file = match opened(open(rt, files.transcript)) {
+        Ok(file) => file,
+        Err(end) => return Err(Halt::Ended(end)),
+    };
     match Meter::new(rt, files.memory) {
         Ok(mut meter) => {
             let judged = judge_source(rt, files, tree, left_out, file, &mut meter, follows);
-            if meter.is_over() {
-                return Err(Halt::Ended(End::OutOfMemory));
-            }
-            Ok(judged?)
+            let is_over = meter.is_over();
+            drop(meter);
+            halted(judged, is_over)
         }
         Err(failure) => {
             drop(file);
             Err(Halt::Ended(end_of(failure)))
         }
+    }
+}
+
+/// What an audit gave, unless the process had more memory than it may.
+fn halted(judged: Result<Counts, AuditError>, is_over: bool) -> Result<Counts, Halt> {
+    if is_over {
+        return Err(Halt::Ended(End::OutOfMemory));
+    }
+    match judged {
+        Ok(counts) => Ok(counts),
+        Err(error) => Err(Halt::from(error)),
     }
 }
 
@@ -374,13 +381,17 @@ fn judge_source<R: Files + AllocGlobal, F: Read + Drop>(
     meter: &mut Meter,
     follows: &mut bool,
 ) -> Result<Counts, AuditError> {
-    let Ok(bounded) = BoundedRecords::new(rt.alloc(), transcript, meter) else {
-        return Err(AuditError::NoMemory);
-    };
-    let mut records = Reader::new(rt.alloc(), Tally::new(bounded))?;
-    let judged = judge_records(rt, files, tree, left_out, &mut records, follows);
-    drop(records);
-    judged
+    match BoundedRecords::new(rt.alloc(), transcript, meter) {
+        Ok(bounded) => match Reader::new(rt.alloc(), Tally::new(bounded)) {
+            Ok(mut records) => {
+                let judged = judge_records(rt, files, tree, left_out, &mut records, follows);
+                drop(records);
+                judged
+            }
+            Err(error) => Err(AuditError::from(error)),
+        },
+        Err(_no_memory) => Err(AuditError::NoMemory),
+    }
 }
 
 /// Audits what is not left out of the session of a reader that has read nothing yet.
@@ -392,15 +403,32 @@ fn judge_records<R: Files + AllocGlobal, T: Source>(
     records: &mut Reader<T>,
     follows: &mut bool,
 ) -> Result<Counts, AuditError> {
+    match new_auditor(rt, files, tree) {
+        Ok(mut auditor) => match feed_rest(&mut auditor, left_out, records) {
+            Ok(requests) => ended(auditor, requests, left_out.hanging(), files.cuts),
+            Err(error) => {
+                *follows = auditor.follows();
+                drop(auditor);
+                Err(error)
+            }
+        },
+        Err(error) => Err(error),
+    }
+}
+
+/// An auditor of a session that begins on this tree.
+fn new_auditor<R: Files + AllocGlobal>(
+    rt: &R,
+    files: &AuditOptions<'_>,
+    tree: Kept<'_>,
+) -> Result<Auditor<Judge>, AuditError> {
     let profile = files.profile.unwrap_or(Profile::strict());
-    let mut auditor = Auditor::<Judge>::by(profile, tree.read(rt)?)?;
-    match feed_rest(&mut auditor, left_out, records) {
-        Ok(requests) => ended(auditor, requests, left_out.hanging(), files.cuts),
-        Err(error) => {
-            *follows = auditor.follows();
-            drop(auditor);
-            Err(error)
-        }
+    match tree.read(rt) {
+        Ok(tree) => match Auditor::<Judge>::by(profile, tree) {
+            Ok(auditor) => Ok(auditor),
+            Err(_no_memory) => Err(AuditError::NoMemory),
+        },
+        Err(error) => Err(AuditError::from(error)),
     }
 }
 

@@ -17,24 +17,30 @@ struct Assumption<'a>(&'a Fact);
 
 impl fmt::Display for Assumption<'_> {
     fn fmt<W: fmt::Write>(&self, f: &mut fmt::Formatter<W>) -> fmt::Result {
-        let place = Quoted(self.0.place.as_slice());
-        match &self.0.says {
-            Says::SameFile(other) => {
-                let other = Quoted(other.as_slice());
-                write!(f, "{place} and {other} name one file")?;
-            }
-            Says::Link(target) => {
-                let target = Quoted(target.as_slice());
-                write!(f, "{place} is a link to {target}")?;
-            }
-            Says::Size(size) => write!(f, "{place} has {size} bytes at the start")?,
-            Says::Home => write!(f, "relative paths begin at {place}")?,
-            Says::Directory => write!(f, "{place} is a directory")?,
-            Says::File => write!(f, "{place} is a file")?,
-            Says::There => write!(f, "{place} is there")?,
-        }
+        put_fact(self.0, f)?;
         put_number(self.0.told, f)
     }
+}
+
+/// Writes what a tree assumes of a place.
+fn put_fact<W: fmt::Write>(fact: &Fact, f: &mut fmt::Formatter<W>) -> fmt::Result {
+    let place = Quoted(fact.place.as_slice());
+    let (before, behind) = match &fact.says {
+        Says::SameFile(other) => {
+            let other = Quoted(other.as_slice());
+            return write!(f, "{place} and {other} name one file");
+        }
+        Says::Link(target) => {
+            let target = Quoted(target.as_slice());
+            return write!(f, "{place} is a link to {target}");
+        }
+        Says::Size(size) => return write!(f, "{place} has {size} bytes at the start"),
+        Says::Home => ("relative paths begin at ", ""),
+        Says::Directory => ("", " is a directory"),
+        Says::File => ("", " is a file"),
+        Says::There => ("", " is there"),
+    };
+    write!(f, "{before}{place}{behind}")
 }
 
 /// Writes the number of the record that led to an assumption, if one did.
@@ -140,37 +146,29 @@ impl fmt::Display for Told<'_> {
     fn fmt<W: fmt::Write>(&self, f: &mut fmt::Formatter<W>) -> fmt::Result {
         let place = Quoted(self.0.place.as_slice());
         match self.0.what {
-            What::Gone => write!(f, "something is at {place}"),
-            What::There => write!(f, "nothing is at {place}"),
-            What::Kind(sort, _) => {
-                let sort = word(sort);
-                write!(f, "{place} is {sort}")
-            }
             What::Size(size, _) => write!(f, "{place} has {size} bytes"),
             What::Byte(offset, byte, _) => write!(f, "byte {offset} of {place} is 0x{byte:02x}"),
-            What::Unlisted => write!(f, "{place} is there"),
+            What::Owner((uid, gid), _) => write!(f, "{place} is owned by {uid},{gid}"),
+            What::Permissions(bits, _) => write!(f, "{place} has the permissions {bits:04o}"),
             What::Target => put_target(self.0, f),
-            other => put_told_rest(other, self.0.place.as_slice(), f),
+            other => {
+                let (before, behind, sort) = told_words(other);
+                write!(f, "{before}{place}{behind}{sort}")
+            }
         }
     }
 }
 
-fn put_told_rest<W: fmt::Write>(
-    what: What,
-    place: &[u8],
-    f: &mut fmt::Formatter<W>,
-) -> fmt::Result {
-    let place = Quoted(place);
+/// The words around the place where a record told nothing but of what kind something is, if anything.
+fn told_words(what: What) -> (&'static str, &'static str, &'static str) {
     match what {
-        What::Owner((uid, gid), _) => write!(f, "{place} is owned by {uid},{gid}"),
-        What::Permissions(bits, _) => write!(f, "{place} has the permissions {bits:04o}"),
-        What::Entries => write!(f, "{place} has entries"),
-        What::Place => write!(f, "the path leads to {place}"),
-        What::Refused(Some(sort)) => {
-            let sort = word(sort);
-            write!(f, "{place} is {sort}")
-        }
-        _ => write!(f, "nothing is at {place}"),
+        What::Gone => ("something is at ", "", ""),
+        What::Kind(sort, _) => ("", " is ", word(sort)),
+        What::Refused(Some(sort)) => ("", " is ", word(sort)),
+        What::Unlisted => ("", " is there", ""),
+        What::Entries => ("", " has entries", ""),
+        What::Place => ("the path leads to ", "", ""),
+        _ => ("nothing is at ", "", ""),
     }
 }
 
@@ -203,18 +201,14 @@ struct Otherwise<'a>(&'a Clash);
 impl fmt::Display for Otherwise<'_> {
     fn fmt<W: fmt::Write>(&self, f: &mut fmt::Formatter<W>) -> fmt::Result {
         match self.0.what {
-            What::Gone => f.write_str("nothing is there"),
-            What::There => f.write_str("something is there"),
-            What::Kind(_, sort) => f.write_str(word(sort)),
             What::Size(_, size) => write!(f, "{size} bytes"),
             What::Byte(_, _, byte) => write!(f, "0x{byte:02x}"),
             What::Owner(_, (uid, gid)) => write!(f, "{uid},{gid}"),
             What::Permissions(_, bits) => write!(f, "{bits:04o}"),
             What::Target => put_text("it leads to", self.0, f),
-            What::Unlisted => f.write_str("the listing ends without it"),
-            What::Entries => f.write_str("it was removed as an empty directory"),
             What::Place => put_text("it leads to", self.0, f),
             What::Refused(_) => f.write_str(unexplained(self.0.told)),
+            other => f.write_str(other_words(other)),
         }
     }
 }
@@ -224,6 +218,17 @@ fn unexplained(told: u64) -> &'static str {
     match told {
         0 => "a reply that nothing explains",
         _ => "a refusal for which that is no reason",
+    }
+}
+
+/// What the second record says that tells nothing but of what kind something is, if anything.
+fn other_words(what: What) -> &'static str {
+    match what {
+        What::There => "something is there",
+        What::Kind(_, sort) => word(sort),
+        What::Unlisted => "the listing ends without it",
+        What::Entries => "it was removed as an empty directory",
+        _ => "nothing is there",
     }
 }
 
@@ -245,8 +250,10 @@ pub(crate) fn put_clash<E: Write>(
         let _ = write_flushed(errors, format_args!("found: {otherwise}\n"));
     }
     let passes = search.passes();
-    let _ = write_flushed(errors, format_args!("tried: {passes} passes\n"));
-    let _ = write_flushed(errors, "This is no proof that there is no tree.\n");
+    let _ = write_flushed(
+        errors,
+        format_args!("tried: {passes} passes\nThis is no proof that there is no tree.\n"),
+    );
     if let Some(clash) = search.clash() {
         put_hint(clash, errors);
     }

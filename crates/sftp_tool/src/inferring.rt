@@ -89,10 +89,14 @@ pub(crate) fn infer<'a, R: System, O: Write, E: Write>(
     let umask = umask_of(rt.alloc(), options.umask)?;
     let mut options = *options;
     options.profile = with_umask(options.profile, umask);
-    let session = read_at_most(rt, options.transcript, options.memory)?;
-    let ending = infer_from(rt, &options, session.as_slice(), output, errors);
-    drop(session);
-    ending
+    match read_at_most(rt, options.transcript, options.memory) {
+        Ok(session) => {
+            let ending = infer_from(rt, &options, session.as_slice(), output, errors);
+            drop(session);
+            ending
+        }
+        Err(failure) => Err(failure),
+    }
 }
 
 /// Whether a tree would be written into the file of the transcript.
@@ -154,7 +158,11 @@ fn infer_from<'a, R: System, O: Write, E: Write>(
     };
     let found = find(how, session, &mut search);
     let ending = match found {
-        Ok(found) => report(rt, options, session, &search, found, output, errors),
+        Ok(found) => {
+            let ending = report(rt, options, session, &search, &found, output, errors);
+            drop(found);
+            ending
+        }
         Err(_) => Err(Failure::OutOfMemory),
     };
     drop(search);
@@ -167,41 +175,47 @@ fn report<'a, R: System, O: Write, E: Write>(
     options: &InferOptions<'a>,
     session: &[u8],
     search: &Search<'_>,
-    found: Found<'_>,
+    found: &Found<'_>,
     output: &mut O,
     errors: &mut E,
 ) -> Result<Ending, Failure<'a>>
     ensures { IsAuditStatus result }
 {
     match found {
-        Found::Inferred(inferred) => {
-            let ending = accept(rt, options, &inferred, output, errors);
-            drop(inferred);
-            ending
-        }
-        Found::Malformed(error) => Err(Failure::of_transcript(error, options.transcript)),
+        Found::Inferred(inferred) => accept(rt, options, inferred, output, errors),
+        Found::Malformed(error) => Err(Failure::of_transcript(*error, options.transcript)),
         Found::OutOfMemory => Err(Failure::OutOfMemory),
         Found::Refused(refusal) => {
-            if options.is_json {
-                return print_untold(refusal_record(refusal), 0, output);
-            }
-            put_refusal(refusal, output)?;
-            if options.explains {
-                put_exchange(
-                    rt.alloc(),
-                    session,
-                    "found",
-                    refusal_record(refusal),
-                    errors,
-                );
-            }
-            put_way(refusal, errors);
-            Ok(Ending::Refused)
+            report_unpaired(rt.alloc(), options, session, *refusal, output, errors)
         }
-        Found::TooLarge(excess) => exceed(options, excess, output, errors),
+        Found::TooLarge(excess) => exceed(options, *excess, output, errors),
         Found::Nothing => refuse(rt, options, session, search, output, errors),
         Found::Unfit(_) => refuse(rt, options, session, search, output, errors),
     }
+}
+
+/// Says that the records of a session do not pair off, and how it can be judged if it was cut; shows where if that is
+/// asked for.
+fn report_unpaired<'a, O: Write, E: Write>(
+    alloc: Global,
+    options: &InferOptions<'a>,
+    session: &[u8],
+    refusal: sftp_audit::Refusal,
+    output: &mut O,
+    errors: &mut E,
+) -> Result<Ending, Failure<'a>>
+    ensures { IsAuditStatus result }
+{
+    let record = refusal_record(refusal);
+    if options.is_json {
+        return print_untold(record, 0, output);
+    }
+    put_refusal(refusal, output)?;
+    if options.explains {
+        put_exchange(alloc, session, "found", record, errors);
+    }
+    put_way(refusal, errors);
+    Ok(Ending::Refused)
 }
 
 /// Says that the tree of what a session tells would be larger than it may be, or than any tree is.
@@ -215,21 +229,26 @@ fn exceed<'a, O: Write, E: Write>(
 {
     put_excess(excess, errors);
     match excess {
-        Excess::File(_) => print_none(options.is_json, output),
-        Excess::Entries => print_none(options.is_json, output),
+        Excess::File(_) => print_none(options.is_json, 0, 0, output),
+        Excess::Entries => print_none(options.is_json, 0, 0, output),
         Excess::Files(_) => Err(Failure::OverLimit(options.transcript)),
         Excess::Paths(_) => Err(Failure::OverLimit(options.transcript)),
     }
 }
 
-/// Says that there is no tree, and names no records.
-fn print_none<'a, O: Write>(is_json: bool, output: &mut O) -> Result<Ending, Failure<'a>>
+/// Says that there is no tree, since one record contradicts another one; 0 stands for none.
+fn print_none<'a, O: Write>(
+    is_json: bool,
+    told: u64,
+    found: u64,
+    output: &mut O,
+) -> Result<Ending, Failure<'a>>
     ensures { IsAuditStatus result }
 {
     if is_json {
-        return print_untold(0, 0, output);
+        return print_untold(found, told, output);
     }
-    print_contradiction(0, 0, output)
+    print_contradiction(told, found, output)
 }
 
 fn refusal_record(refusal: sftp_audit::Refusal) -> u64 {
@@ -253,12 +272,7 @@ fn accept<'a, R: System, O: Write, E: Write>(
 ) -> Result<Ending, Failure<'a>>
     ensures { IsAuditStatus result }
 {
-    if let Some(name) = options.tree {
-        write_text(rt, name, options.keeping, &inferred.candidate.tree)?;
-    }
-    if let (Some(name), Some(tree)) = (options.out, &inferred.ended.tree) {
-        write(rt, name, options.keeping, tree.as_slice())?;
-    }
+    write_files(rt, options, inferred)?;
     put_assumed(&inferred.candidate, errors);
     if options.is_json {
         return print_object(rt.alloc(), inferred, output);
@@ -270,6 +284,23 @@ fn accept<'a, R: System, O: Write, E: Write>(
         format_args!("inferred {entries} entries from {requests} requests; accepted\n"),
         Ending::Done,
     )
+}
+
+/// Writes the tree file of the start and that of the end, if files are named for them.
+fn write_files<'a, R: System>(
+    rt: &R,
+    options: &InferOptions<'a>,
+    inferred: &Inferred<'_>,
+) -> Result<(), Failure<'a>>
+    ensures { IfErr result IsUnwritten }
+{
+    if let Some(name) = options.tree {
+        write_text(rt, name, options.keeping, &inferred.candidate.tree)?;
+    }
+    match (options.out, &inferred.ended.tree) {
+        (Some(name), Some(tree)) => write(rt, name, options.keeping, tree.as_slice()),
+        _ => Ok(()),
+    }
 }
 
 /// Writes a tree file.
@@ -322,24 +353,33 @@ fn refuse<'a, R: System, O: Write, E: Write>(
 ) -> Result<Ending, Failure<'a>>
     ensures { IsAuditStatus result }
 {
-    if let (Some(name), Some(tree)) = (options.best, search.best()) {
-        write_text(rt, name, options.keeping, tree)?;
+    write_best(rt, options, search)?;
+    if search.is_spent() {
+        put_spent(errors);
     }
     let (told, found) = match search.clash() {
         Some(clash) => (clash.told, clash.found),
         None => (0, 0),
     };
-    if search.is_spent() {
-        put_spent(errors);
-    }
-    if options.is_json {
-        return print_untold(found, told, output);
-    }
-    print_contradiction(told, found, output)?;
-    if options.explains {
+    let printed = print_none(options.is_json, told, found, output);
+    if options.explains && !options.is_json && printed.is_ok() {
         put_clash(rt.alloc(), session, search, errors);
     }
-    Ok(Ending::Refused)
+    printed
+}
+
+/// Writes the tree of the pass that came furthest, if there is one and a file is named for it.
+fn write_best<'a, R: System>(
+    rt: &R,
+    options: &InferOptions<'a>,
+    search: &Search<'_>,
+) -> Result<(), Failure<'a>>
+    ensures { IfErr result IsUnwritten }
+{
+    match (options.best, search.best()) {
+        (Some(name), Some(tree)) => write_text(rt, name, options.keeping, tree),
+        _ => Ok(()),
+    }
 }
 
 /// The line for two records that contradict each other; 0 stands for none.

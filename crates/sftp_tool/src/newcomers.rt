@@ -1,4 +1,5 @@
 //! Names that came into a directory while it was listed, where the explanation names what is wrong with one.
+use crate::readings::is_there;
 use sftp_path::Name;
 use sftp_profile::Judge;
 use sftp_tree::{NoMemory, Refused};
@@ -180,7 +181,9 @@ fn may_have(
     let answer = Answer::Name(Names::new(only));
     let due = judge.due(ask, &answer);
     drop(answer);
-    Ok(due?.is_some())
+    let is_due = is_there(&due);
+    drop(due);
+    is_due
 }
 
 /// An item as this one, with these attributes.

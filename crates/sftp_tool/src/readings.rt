@@ -212,7 +212,9 @@ fn put_undue(
     let answer = Answer::Name(Names::new(only));
     let due = judge.due(ask, &answer);
     drop(answer);
-    if due?.is_none() {
+    let is_due = is_there(&due);
+    drop(due);
+    if !is_due? {
         undue.push(copy_of(item)?)?;
     }
     Ok(())
@@ -243,19 +245,25 @@ pub(crate) fn content_of(profile: Profile, ask: &Ask) -> Option<&'static str> {
     }
 }
 
-/// What the reply to the extension of this name may have (PROFILES.md, `extensions`).
+/// What the replies to extensions may have, by their names (PROFILES.md, `extensions`).
+const CONTENTS: [(&str, &str); 6] = [
+    ("limits@openssh.com", "EXTENDED_REPLY of length 32"),
+    ("statvfs@openssh.com", "EXTENDED_REPLY of length 88"),
+    ("fstatvfs@openssh.com", "EXTENDED_REPLY of length 88"),
+    (
+        "users-groups-by-id@openssh.com",
+        "EXTENDED_REPLY of any length",
+    ),
+    ("expand-path@openssh.com", "NAME with one name"),
+    ("home-directory", "NAME with one name"),
+];
+
+/// What the reply to the extension of this name may have.
 fn content_by(name: &[u8]) -> Option<&'static str> {
-    if name == b"limits@openssh.com".as_slice() {
-        return Some("EXTENDED_REPLY of length 32");
-    }
-    if name == b"statvfs@openssh.com".as_slice() || name == b"fstatvfs@openssh.com".as_slice() {
-        return Some("EXTENDED_REPLY of length 88");
-    }
-    if name == b"users-groups-by-id@openssh.com".as_slice() {
-        return Some("EXTENDED_REPLY of any length");
-    }
-    if name == b"expand-path@openssh.com".as_slice() || name == b"home-directory".as_slice() {
-        return Some("NAME with one name");
+    for (known, content) in CONTENTS.as_slice() {
+        if name == known.as_bytes() {
+            return Some(*content);
+        }
     }
     None
 }
@@ -352,5 +360,19 @@ fn is_removed(judge: &Judge, handle: &ByteString) -> Result<bool, NoMemory> {
     let stat = judge.standing(&ask, &answer);
     drop(answer);
     drop(ask);
-    Ok(stat?.is_none())
+    let stands = is_there(&stat);
+    drop(stat);
+    Ok(!stands?)
+}
+
+/// Whether something was found, unless memory ran out.
+///
+/// # Errors
+///
+/// `NoMemory` if memory runs out.
+pub(crate) fn is_there<T>(found: &Result<Option<T>, NoMemory>) -> Result<bool, NoMemory> {
+    match found {
+        Ok(found) => Ok(found.is_some()),
+        Err(error) => Err(*error),
+    }
 }

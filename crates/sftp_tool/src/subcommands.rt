@@ -10,10 +10,10 @@ ghost use Rattle.sftp_tool.specs.Verdicts.{IsAuditStatus, IsOutcome};
 ghost use Rattle.sftp_tool.specs.Verdicts.{IsAudit, IsStrictAudit, IsAuditUnder, HasEnd, IsReportOf, IsReportOfError};
 ghost use Rattle.sftp_tool.specs.Verdicts.{IsStrictVerdict, IsVerdictUnder, IsVerdictAsked};
 
-use crate::cut_sessions::judge_cut_and_report;
+use crate::cut_sessions::{Counts, judge_cut_and_report, say_accepted};
 use crate::explaining::explain;
 use crate::going_on::report_findings;
-use crate::verdict_objects::{print_accepted, print_refused};
+use crate::verdict_objects::print_refused;
 use sftp_audit::{AuditError, Ended, Refusal, audit_tree_by};
 use sftp_commands::{Kept, LeftOut, is_read_again, read_tree_in_view, write_tree};
 use sftp_files::{
@@ -109,15 +109,15 @@ fn audit_from<'a, R: System + Clock, O: Write, E: Write + IsTerminal>(
 ) -> Result<Ending, Failure<'a>>
     ensures { IsAuditStatus result }
 {
-    match (open(rt, files.transcript), start) {
-        (Ok(transcript), Ok(start)) => {
-            audit_transcript(rt, files, start, kept, transcript, output, errors)
-        }
-        (Ok(transcript), Err(error)) => {
-            drop(transcript);
-            Err(Failure::from(error))
-        }
-        (Err(failure), start) => {
+    match open(rt, files.transcript) {
+        Ok(transcript) => match start {
+            Ok(start) => audit_transcript(rt, files, start, kept, transcript, output, errors),
+            Err(error) => {
+                drop(transcript);
+                Err(Failure::from(error))
+            }
+        },
+        Err(failure) => {
             drop(start);
             Err(failure)
         }
@@ -438,15 +438,12 @@ fn accept<'a, R: System, O: Write>(
     ensures err { IfErr result IsUnwritten }
 {
     keep_end(rt, files, &ended.tree)?;
-    let requests = ended.requests;
-    if files.is_json {
-        return print_accepted(requests, None, output);
-    }
-    print(
-        output,
-        format_args!("accepted {requests} requests\n"),
-        Ending::Done,
-    )
+    let counts = Counts {
+        judged: ended.requests,
+        unanswered: 0,
+        unjudged: 0,
+    };
+    say_accepted(counts, None, files, output)
 }
 
 /// Writes the final tree of an accepted session, if a file is named for it.

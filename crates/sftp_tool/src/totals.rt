@@ -4,7 +4,8 @@ ghost use Rattle.sftp_files.specs.declared.messages.Ending.TheVariants as ending
 ghost use Rattle.sftp_files.specs.Failures.{IsUnwritten};
 
 use crate::cut_sessions::Counts;
-use sftp_commands::{ended, record_of_fault};
+use crate::verdict_objects::{object_of, print_object};
+use sftp_commands::record_of_fault;
 use sftp_files::{Ending, Failure, print};
 use sftp_json::JsonLines;
 use sftp_transcript::TranscriptError;
@@ -125,23 +126,20 @@ pub(crate) fn print_total<'a, O: Write>(
     ensures err { IfErr result IsUnwritten }
 {
     if is_json {
-        return print_object(total, output);
+        return print_as_object(total, output);
     }
     print(output, format_args!("{total}\n"), Ending::Refused)
 }
 
-fn print_object<'a, O: Write>(total: Total, output: &mut O) -> Result<Ending, Failure<'a>>
+fn print_as_object<'a, O: Write>(total: Total, output: &mut O) -> Result<Ending, Failure<'a>>
     ensures ok { IfOk result (λ ending. ending ≡ endings.Refused) }
     ensures err { IfErr result IsUnwritten }
 {
-    let mut json = JsonLines::new(output, usize::MAX);
-    json.open();
-    json.word("verdict", "refused");
+    let mut json = object_of("refused", output);
     json.number("findings", total.findings);
     json.word("end", word_of(total.end));
     put_members(total.end, &mut json);
-    json.end_line();
-    ended(json.finish(), Ending::Refused)
+    print_object(json, Ending::Refused)
 }
 
 /// What objects call an end.

@@ -9,6 +9,29 @@ use sftp_files::{Ending, Failure};
 use sftp_json::JsonLines;
 use std::io::Write;
 
+/// The object of a session with this verdict, to which members are added.
+pub(crate) fn object_of<'o, O: Write>(verdict: &str, output: &'o mut O) -> JsonLines<'o, O> {
+    let mut json = JsonLines::new(output, usize::MAX);
+    json.open();
+    json.word("verdict", verdict);
+    json
+}
+
+/// Ends an object, and prints it as the last step of a run.
+pub(crate) fn print_object<'a, O: Write>(
+    object: JsonLines<'_, O>,
+    ending: Ending,
+) -> Result<Ending, Failure<'a>>
+    ensures ok { IfOk result (λ ended. ended ≡ ending) }
+    ensures err { IfErr result IsUnwritten }
+{
+    let mut json = object;
+    json.end_line();
+    let printed = json.finish();
+    drop(json);
+    ended(printed, ending)
+}
+
 /// Prints the object of an accepted session, as the last step of a run. `cut` has, of a session that may have been cut,
 /// how many requests have no reply, and how many others were not judged.
 pub(crate) fn print_accepted<'a, O: Write>(
@@ -19,16 +42,13 @@ pub(crate) fn print_accepted<'a, O: Write>(
     ensures ok { IfOk result (λ ending. ending ≡ endings.Done) }
     ensures err { IfErr result IsUnwritten }
 {
-    let mut json = JsonLines::new(output, usize::MAX);
-    json.open();
-    json.word("verdict", "accepted");
+    let mut json = object_of("accepted", output);
     json.number("requests", requests);
     if let Some((unanswered, unjudged)) = cut {
         json.number("unanswered", unanswered);
         json.number("unjudged", unjudged);
     }
-    json.end_line();
-    ended(json.finish(), Ending::Done)
+    print_object(json, Ending::Done)
 }
 
 /// Prints the object of a refused session, as the last step of a run. `explanation` has the lines of one, if it was
@@ -43,16 +63,13 @@ pub(crate) fn print_refused<'a, O: Write>(
     ensures err { IfErr result IsUnwritten }
 {
     let (record, kind) = parts_of(refusal, follows);
-    let mut json = JsonLines::new(output, usize::MAX);
-    json.open();
-    json.word("verdict", "refused");
+    let mut json = object_of("refused", output);
     json.number("record", record);
     json.word("kind", kind);
     if let Some(lines) = explanation {
         put_explanation(lines, &mut json);
     }
-    json.end_line();
-    ended(json.finish(), Ending::Refused)
+    print_object(json, Ending::Refused)
 }
 
 /// Prints the object of a session for which no tree was found, as the last step of a run. The numbers are those of the
@@ -65,13 +82,10 @@ pub(crate) fn print_untold<'a, O: Write>(
     ensures ok { IfOk result (λ ending. ending ≡ endings.Refused) }
     ensures err { IfErr result IsUnwritten }
 {
-    let mut json = JsonLines::new(output, usize::MAX);
-    json.open();
-    json.word("verdict", "no-tree");
+    let mut json = object_of("no-tree", output);
     json.number("record", found);
     json.number("contradicts", told);
-    json.end_line();
-    ended(json.finish(), Ending::Refused)
+    print_object(json, Ending::Refused)
 }
 
 /// Prints the object of a session for which a tree was found, as the last step of a run. `assumed` has a line for each
@@ -85,26 +99,33 @@ pub(crate) fn print_inferred<'a, O: Write>(
     ensures ok { IfOk result (λ ending. ending ≡ endings.Done) }
     ensures err { IfErr result IsUnwritten }
 {
-    let mut json = JsonLines::new(output, usize::MAX);
-    json.open();
-    json.word("verdict", "accepted");
+    let mut json = object_of("accepted", output);
     json.number("requests", requests);
     json.number("entries", entries);
     json.open_list("assumed");
     put_assumptions(assumed, &mut json);
     json.close_list();
-    json.end_line();
-    ended(json.finish(), Ending::Done)
+    print_object(json, Ending::Done)
 }
 
-/// Writes what stands behind the colon of each whole line as an item. If memory ran out, the last may be cut off.
+/// Writes what stands behind the colon of each whole line as an item.
 fn put_assumptions<O: Write>(lines: &[u8], json: &mut JsonLines<'_, O>) {
-    let text = str::from_utf8(lines).unwrap_or("");
-    let (whole, _) = text.rsplit_once('\n').unwrap_or(("", ""));
-    for line in whole.lines() {
-        let (_, assumption) = line.split_once(": ").unwrap_or(("", line));
+    for line in whole_lines(lines).lines() {
+        let (_, assumption) = parts_of_line(line);
         json.item(assumption);
     }
+}
+
+/// The lines that are whole. If memory ran out, the last may be cut off.
+fn whole_lines(lines: &[u8]) -> &str {
+    let text = str::from_utf8(lines).unwrap_or("");
+    let (whole, _) = text.rsplit_once('\n').unwrap_or(("", ""));
+    whole
+}
+
+/// What stands before and behind the colon of a line.
+fn parts_of_line(line: &str) -> (&str, &str) {
+    line.split_once(": ").unwrap_or(("", line))
 }
 
 /// The record that a refusal names, and its kind.
@@ -120,12 +141,10 @@ fn parts_of(refusal: Refusal, follows: bool) -> (u64, &'static str) {
     }
 }
 
-/// Writes the whole lines of an explanation as a list: an object for each. If memory ran out, the last may be cut off.
+/// Writes the whole lines of an explanation as a list: an object for each.
 fn put_explanation<O: Write>(lines: &[u8], json: &mut JsonLines<'_, O>) {
-    let text = str::from_utf8(lines).unwrap_or("");
-    let (whole, _) = text.rsplit_once('\n').unwrap_or(("", ""));
     json.open_list("explanation");
-    for line in whole.lines() {
+    for line in whole_lines(lines).lines() {
         put_line(line, json);
     }
     json.close_list();
@@ -134,7 +153,7 @@ fn put_explanation<O: Write>(lines: &[u8], json: &mut JsonLines<'_, O>) {
 /// Writes a line as an object: what stands before its colon, the number of the record that it shows, if it does, and
 /// what stands behind the colon.
 fn put_line<O: Write>(line: &str, json: &mut JsonLines<'_, O>) {
-    let (part, text) = line.split_once(": ").unwrap_or(("", line));
+    let (part, text) = parts_of_line(line);
     json.open();
     json.word("part", part);
     if let Some(record) = shown_record(part, text) {

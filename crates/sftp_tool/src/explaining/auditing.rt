@@ -10,10 +10,10 @@ use sftp_transcript::TranscriptError;
 use std::fs::Files;
 use std::io::Write;
 
-impl<R: Files + AllocGlobal, E: Write> Explanation<'_, '_, R, E> {
+impl<R: Files + AllocGlobal, E: Write> Explanation<'_, '_, '_, R, E> {
     /// An auditor, by this profile, that has seen nothing of the session.
     pub(super) fn new_auditor(&self, profile: Profile) -> Result<Auditor<Judge>, Unexplained> {
-        let tree = self.tree.read(self.rt)?;
+        let tree = self.refused.tree.read(self.refused.rt)?;
         match Auditor::<Judge>::by(profile, tree) {
             Ok(auditor) => Ok(auditor),
             Err(_) => Err(Unexplained::OutOfMemory),

@@ -7,11 +7,11 @@ use sftp_profile::{NAMES, Profile};
 use std::fs::Files;
 use std::io::Write;
 
-impl<R: Files + AllocGlobal, E: Write> Explanation<'_, '_, R, E> {
+impl<R: Files + AllocGlobal, E: Write> Explanation<'_, '_, '_, R, E> {
     /// The names of the departures each of which, accepted besides, makes the session go on beyond its refusal. For
     /// each of them the session is read and judged again, so that they are not tried of one that is long.
     pub(super) fn put_departures(&mut self) -> bool {
-        match self.number_of(Sought::Bytes(record_of(self.refusal))) {
+        match self.number_of(Sought::Bytes(record_of(self.refused.refusal))) {
             Some(bytes) if bytes <= TRIED => self.put_each_departure(),
             Some(_) => self.put_untried(),
             None => false,
@@ -29,18 +29,13 @@ impl<R: Files + AllocGlobal, E: Write> Explanation<'_, '_, R, E> {
     fn put_each_departure(&mut self) -> bool {
         for name in NAMES {
             if self.goes_on_with(name) {
-                self.put_departure(name);
+                self.put_text("allowed by", name);
             }
             if self.stopped_by.is_some() {
                 return false;
             }
         }
         true
-    }
-
-    fn put_departure(&mut self, name: &str) -> bool {
-        let written = writeln!(self.errors, "allowed by: {name}");
-        self.is_written(written)
     }
 
     /// Whether the session continues beyond its refusal if the departure of this name is accepted besides.
@@ -69,8 +64,9 @@ impl<R: Files + AllocGlobal, E: Write> Explanation<'_, '_, R, E> {
         match fed {
             None => self.stopped_by.is_none(),
             Some(other) => {
-                other != self.refusal
-                    && (!replaces_requests(name) || record_of(other) > record_of(self.refusal))
+                other != self.refused.refusal
+                    && (!replaces_requests(name)
+                        || record_of(other) > record_of(self.refused.refusal))
             }
         }
     }

@@ -9,7 +9,7 @@ use sftp_wire::Side;
 use std::fs::Files;
 use std::io::Write;
 
-impl<R: Files + AllocGlobal, E: Write> Explanation<'_, '_, R, E> {
+impl<R: Files + AllocGlobal, E: Write> Explanation<'_, '_, '_, R, E> {
     /// Writes the line of the record with this number.
     pub(super) fn put_numbered(&mut self, label: &str, number: u64) -> bool {
         let found = self.found(number);
@@ -106,7 +106,7 @@ impl<R: Files + AllocGlobal, E: Write> Explanation<'_, '_, R, E> {
 
     /// A reader of the transcript from its start. If it cannot be read, the explanation stops.
     pub(super) fn records(&mut self) -> Option<Reader<Tally<R::File>>> {
-        match open(self.rt, self.files.transcript) {
+        match open(self.refused.rt, self.refused.files.transcript) {
             Ok(file) => self.records_of(file),
             Err(failure) => {
                 self.stop(unopened(&failure));
@@ -118,7 +118,7 @@ impl<R: Files + AllocGlobal, E: Write> Explanation<'_, '_, R, E> {
 
     /// A reader of a transcript that was just opened. If memory runs out, the explanation stops.
     fn records_of(&mut self, file: R::File) -> Option<Reader<Tally<R::File>>> {
-        match Reader::new(self.rt.alloc(), Tally::new(file)) {
+        match Reader::new(self.refused.rt.alloc(), Tally::new(file)) {
             Ok(records) => Some(records),
             Err(error) => {
                 self.stop(Unexplained::from(error));

@@ -14,7 +14,7 @@ use sftp_wire::{Answer, Ask, Side};
 use std::fs::Files;
 use std::io::Write;
 
-impl<R: Files + AllocGlobal, E: Write> Explanation<'_, '_, R, E> {
+impl<R: Files + AllocGlobal, E: Write> Explanation<'_, '_, '_, R, E> {
     /// The request, its reply, why that is not allowed, and what is.
     pub(super) fn put_wrong_reply(&mut self, reply: &Record) -> bool {
         match self.earlier(Side::Client, reply) {
@@ -73,12 +73,11 @@ impl<R: Files + AllocGlobal, E: Write> Explanation<'_, '_, R, E> {
     /// What the auditor's session allows in place of an answer to the request that the profile judges.
     fn put_allowed(&mut self, auditor: &Auditor<Judge>, ask: &Ask, answer: &Answer) -> bool {
         match auditor.judge().replaced(ask) {
-            Ok(Some(other)) => {
-                let put = self.put_taken(auditor, &other, answer);
+            Ok(other) => {
+                let put = self.put_taken(auditor, found_or(&other, ask), answer);
                 drop(other);
                 put
             }
-            Ok(None) => self.put_taken(auditor, ask, answer),
             Err(_) => self.stop(Unexplained::OutOfMemory),
         }
     }
@@ -89,12 +88,11 @@ impl<R: Files + AllocGlobal, E: Write> Explanation<'_, '_, R, E> {
             return self.put_barred();
         }
         match taken_for(auditor.judge(), ask, answer) {
-            Ok(Some(other)) => {
-                let put = self.put_told(auditor, &other, answer);
+            Ok(other) => {
+                let put = self.put_told(auditor, found_or(&other, ask), answer);
                 drop(other);
                 put
             }
-            Ok(None) => self.put_told(auditor, ask, answer),
             Err(_) => self.stop(Unexplained::OutOfMemory),
         }
     }
@@ -111,19 +109,18 @@ impl<R: Files + AllocGlobal, E: Write> Explanation<'_, '_, R, E> {
     /// What it allows in place of an answer, but for what the profile leaves free of that.
     fn put_told(&mut self, auditor: &Auditor<Judge>, ask: &Ask, answer: &Answer) -> bool {
         match auditor.judge().told(ask, answer) {
-            Ok(Some(told)) => {
-                let put = self.put_undue(auditor, ask, &told);
+            Ok(told) => {
+                let put = self.put_undue(auditor, ask, found_or(&told, answer));
                 drop(told);
                 put
             }
-            Ok(None) => self.put_undue(auditor, ask, answer),
             Err(_) => self.stop(Unexplained::OutOfMemory),
         }
     }
 
     /// What it allows in place of an answer, but for the names that a listing may give.
     fn put_undue(&mut self, auditor: &Auditor<Judge>, ask: &Ask, answer: &Answer) -> bool {
-        match undue(self.rt.alloc(), auditor.judge(), ask, answer) {
+        match undue(self.refused.rt.alloc(), auditor.judge(), ask, answer) {
             Ok(Some(undue)) => {
                 let put = self.put_wrong_names(auditor, ask, &undue);
                 drop(undue);
@@ -137,7 +134,7 @@ impl<R: Files + AllocGlobal, E: Write> Explanation<'_, '_, R, E> {
     /// What it allows in place of names that the listing may not give: where the first came since OPENDIR and may be
     /// given, what LSTAT shows of it.
     fn put_wrong_names(&mut self, auditor: &Auditor<Judge>, ask: &Ask, undue: &Answer) -> bool {
-        match find_newcomer(self.rt.alloc(), auditor.judge(), ask, undue) {
+        match find_newcomer(self.refused.rt.alloc(), auditor.judge(), ask, undue) {
             Ok(Some(newcomer)) => {
                 let put = self.put_newcomer(auditor, &newcomer);
                 drop(newcomer);
@@ -158,7 +155,7 @@ impl<R: Files + AllocGlobal, E: Write> Explanation<'_, '_, R, E> {
     /// What it allows in place of an answer, but for the bytes beyond the limit of one READ that the profile permits:
     /// where they are wrong, what it allows for the READ of those alone.
     fn put_piece(&mut self, auditor: &Auditor<Judge>, ask: &Ask, answer: &Answer) -> bool {
-        match wrong_piece(self.rt.alloc(), auditor.judge(), ask, answer) {
+        match wrong_piece(self.refused.rt.alloc(), auditor.judge(), ask, answer) {
             Ok(Some(piece)) => {
                 let put = self.put_strict(auditor, &piece.ask, &piece.answer);
                 drop(piece);
@@ -173,7 +170,7 @@ impl<R: Files + AllocGlobal, E: Write> Explanation<'_, '_, R, E> {
     /// refused.
     fn put_strict(&mut self, auditor: &Auditor<Judge>, ask: &Ask, answer: &Answer) -> bool {
         let session = auditor.judge().session();
-        match explain_reply(self.rt.alloc(), session, ask, answer, self.errors) {
+        match explain_reply(self.refused.rt.alloc(), session, ask, answer, self.errors) {
             Ok(()) => self.put_other_codes(auditor, ask) && self.put_further(auditor, ask),
             Err(error) => self.stop(Unexplained::from(error)),
         }
@@ -191,39 +188,32 @@ impl<R: Files + AllocGlobal, E: Write> Explanation<'_, '_, R, E> {
     }
 
     fn put_codes(&mut self) -> bool {
-        let written = writeln!(
-            self.errors,
-            "also by codes: STATUS with code 2, 3, 4, 5 or 8"
-        );
-        self.is_written(written)
+        self.put_text("also by codes", "STATUS with code 2, 3, 4, 5 or 8")
     }
 
     /// What the profile permits besides, where the session itself refuses the request.
     fn put_further(&mut self, auditor: &Auditor<Judge>, ask: &Ask) -> bool {
-        self.put_if_known("open-dir", content_of_removed(auditor.judge(), ask))
-            && self.put_if_known("lsetstat", status_of_set(auditor.judge(), ask))
-            && self.put_also("extensions", content_of(self.profile(), ask))
+        self.put_if_known("also by open-dir", content_of_removed(auditor.judge(), ask))
+            && self.put_if_known("also by lsetstat", status_of_set(auditor.judge(), ask))
+            && self.put_any("also by extensions", content_of(self.profile(), ask))
     }
 
     /// What a departure permits besides, if it does and memory did not run out.
     fn put_if_known(
         &mut self,
-        departure: &str,
+        label: &str,
         content: Result<Option<&'static str>, NoMemory>,
     ) -> bool {
         match content {
-            Ok(content) => self.put_also(departure, content),
+            Ok(content) => self.put_any(label, content),
             Err(_) => self.stop(Unexplained::OutOfMemory),
         }
     }
 
-    /// What a departure permits besides, if it does.
-    fn put_also(&mut self, departure: &str, content: Option<&str>) -> bool {
-        match content {
-            Some(content) => {
-                let written = writeln!(self.errors, "also by {departure}: {content}");
-                self.is_written(written)
-            }
+    /// A line of text, if there is one.
+    fn put_any(&mut self, label: &str, text: Option<&str>) -> bool {
+        match text {
+            Some(text) => self.put_text(label, text),
             None => true,
         }
     }
@@ -233,7 +223,7 @@ impl<R: Files + AllocGlobal, E: Write> Explanation<'_, '_, R, E> {
     fn put_unmodelled(&mut self, ask: &Ask) -> bool {
         match ask {
             Ask::Unknown { name, .. } => self.put_extension(name.as_slice()),
-            other => self.put_lack(lack(self.profile(), other)),
+            other => self.put_text("not modelled", lack(self.profile(), other)),
         }
     }
 
@@ -242,10 +232,13 @@ impl<R: Files + AllocGlobal, E: Write> Explanation<'_, '_, R, E> {
         let written = writeln!(self.errors, "not modelled: extension {name}");
         self.is_written(written)
     }
+}
 
-    fn put_lack(&mut self, lack: &str) -> bool {
-        let written = writeln!(self.errors, "not modelled: {lack}");
-        self.is_written(written)
+/// What was found, or another one.
+fn found_or<'s, T>(found: &'s Option<T>, other: &'s T) -> &'s T {
+    match found {
+        Some(found) => found,
+        None => other,
     }
 }
 
