@@ -88,7 +88,12 @@ fn put_file<'a, O: Write>(
         json.word("file", name);
     }
     match file {
-        Some(Faulty { format: Some(format), .. }) => json.word("found", format.word()),
+        Some(
+            Faulty {
+                format: Some(format),
+                ..
+            },
+        ) => json.word("found", format.word()),
         _ => {}
     }
     match failure {

@@ -5,21 +5,21 @@ ghost use Rattle.std.specs.Str.Parse.{digits_value};
 ghost use Rattle.clap.specs.Matches.{found_of};
 ghost use Rattle.clap.specs.Simple.{subcommand_rows_of};
 ghost use Rattle.clap.specs.Walk.{Row, rows_of};
-ghost use Rattle.sftp_options.specs.Options.{IsPermissions, value_in, is_given};
+ghost use Rattle.sftp_verdicts.specs.Umasks.{IsPermissions};
+ghost use Rattle.sftp_options.specs.Options.{value_in, is_given};
 ghost use Rattle.sftp_options.specs.Options.{IsAuditAsked, IsAuditRequest, LacksFile};
 
 use crate::arguments::{
     AUDIT, Argument, BLANK, DIFF, EXPORT, Form, IMPORT, INFER, MAKE, RAISE, SERVE, SHOW,
 };
-use crate::inferring::InferOptions;
-use crate::{help, importing, inferring, profiles};
+use crate::{help, importing, profiles, searching};
 use clap::error::ErrorKind;
 use clap::{Arg, ArgAction, ArgMatches, Command, Error, value_parser};
 use sftp_files::{
     DiffForm, Failure, ImportOptions, Keeping, MORE, PRIVATE, RaiseTo, ServeOptions, ShowOptions,
 };
-use sftp_profile::Profile;
 use sftp_vary::{Freedoms, Style, Variation, Words};
+use sftp_verdicts::{AuditOptions, InferOptions, octal};
 use std::alloc::{AllocError, Global};
 
 /// What a command line asks for.
@@ -70,37 +70,6 @@ pub enum Request<'a> {
     },
     /// Print this text: help or the version.
     Help(String),
-}
-
-/// The options of `audit`.
-#[derive(Clone, Copy)]
-pub struct AuditOptions<'a> {
-    /// The tree file that the session starts from.
-    pub tree: &'a str,
-    /// The recorded bytes of the session.
-    pub transcript: &'a str,
-    /// The file to write the final tree to.
-    pub out: Option<&'a str>,
-    /// How that file is written.
-    pub keeping: Keeping,
-    /// The most bytes of memory that the process may have.
-    pub memory: Option<u64>,
-    /// Whether standard error explains a refusal, or where a file is malformed.
-    pub explains: bool,
-    /// Whether the verdict is a JSON object.
-    pub is_json: bool,
-    /// Whether a session that was cut is accepted if what comes before its oldest unanswered request is right.
-    pub cuts: bool,
-    /// Whether the audit goes on behind wrong replies that changed nothing.
-    pub keeps_going: bool,
-    /// The most findings of such an audit.
-    pub most: Option<u64>,
-    /// Which departures from the strict reading are accepted; none where the session is judged strictly.
-    pub profile: Option<Profile>,
-    /// The permissions that are taken from whatever is made, as octal digits.
-    pub umask: Option<&'a str>,
-    /// Whether standard error says how far the audit is, also where it is no terminal.
-    pub says_progress: bool,
 }
 
 /// Parses the command line of the program in this version. The first word is the program's name. To ask for help or the
@@ -197,7 +166,7 @@ fn requested<'a>(matches: &ArgMatches<'a>) -> Option<Request<'a>>
         "show" => show_options(given).map(Request::Show),
         "raise" => raise_request(given),
         "diff" => diff_request(given),
-        "infer" => inferring::options_of(given).map(Request::Infer),
+        "infer" => searching::options_of(given).map(Request::Infer),
         "import" => import_request(given),
         "export" => export_request(given),
         _ => file_request(name, given.get_str("file")?, keeping_of(given)),
@@ -303,7 +272,7 @@ fn mode_of(text: Option<&str>) -> u32
     ensures usual { option_map (λ mode. mode.now) text.entry ≡ None → result ≡ PRIVATE }
 {
     match text {
-        Some(text) => profiles::octal(text).unwrap_or(PRIVATE),
+        Some(text) => octal(text).unwrap_or(PRIVATE),
         None => PRIVATE,
     }
 }
@@ -416,9 +385,21 @@ fn with_tree_commands<'a>(alloc: Global, command: Command<'a>) -> Result<Command
     let command = with_subcommand(command, diff)?;
     let infer = described(alloc, "infer", help::ABOUT_INFER, help::AFTER_INFER, INFER);
     let command = with_subcommand(command, infer)?;
-    let import = described(alloc, "import", help::ABOUT_IMPORT, help::AFTER_IMPORT, IMPORT);
+    let import = described(
+        alloc,
+        "import",
+        help::ABOUT_IMPORT,
+        help::AFTER_IMPORT,
+        IMPORT,
+    );
     let command = with_subcommand(command, import)?;
-    let export = described(alloc, "export", help::ABOUT_EXPORT, help::AFTER_EXPORT, EXPORT);
+    let export = described(
+        alloc,
+        "export",
+        help::ABOUT_EXPORT,
+        help::AFTER_EXPORT,
+        EXPORT,
+    );
     let command = with_subcommand(command, export)?;
     let raise = described(alloc, "raise", help::ABOUT_RAISE, help::AFTER_RAISE, RAISE);
     let command = with_subcommand(command, raise)?;
@@ -472,9 +453,7 @@ fn new_argument<'a>(alloc: Global, name: &'a str, form: Form<'a>, help: &'a str)
         Form::Place(label) => valued(arg, label).required(true),
         Form::Required(label) => valued(arg.long(name), label).required(true),
         Form::Optional(label) => valued(arg.long(name), label),
-        Form::Number(label) => {
-            valued(arg.long(name), label).value_parser(value_parser!(u64))
-        }
+        Form::Number(label) => { valued(arg.long(name), label).value_parser(value_parser!(u64)) }
         Form::OneOf(label, values) => valued(arg.long(name), label).value_parser(values),
         Form::SomeOf(label, values) => listed(arg.long(name), label, values),
     }

@@ -4,18 +4,7 @@
 
 ghost use Rattle.std.specs.Prelude.{◌≤◌};
 
-mod cut_sessions;
-mod explaining;
-mod going_on;
-mod inferences;
-mod inferred_lines;
-mod inferring;
-mod newcomers;
-mod readings;
-mod refusals;
 mod subcommands;
-mod totals;
-mod verdict_objects;
 
 use sftp_commands::{Faulty, ReadFiles};
 use sftp_faults::Spot;
@@ -182,8 +171,8 @@ fn perform_request<'a, R: System + Clock, I: Read, O: Write, E: Write + IsTermin
 ) -> Result<Ending, Failure<'a>> {
     match request {
         Request::Serve(options, style) => serve(rt, options, *style, input, output, errors),
-        Request::Audit(files) => inferring::audit(rt, files, output, errors),
-        Request::Infer(options) => inferring::infer(rt, options, output, errors),
+        Request::Audit(files) => subcommands::audit(rt, files, output, errors),
+        Request::Infer(options) => sftp_inferring::infer(rt, options, output, errors),
         Request::Blank { file, keeping } => subcommands::blank(rt, file, *keeping),
         Request::Raise {
             tree,

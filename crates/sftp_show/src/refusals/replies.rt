@@ -49,10 +49,7 @@ pub fn explain_causes<O: Write>(causes: Causes, output: &mut O) -> Result<(), Ex
 }
 
 /// Writes a text, and a line feed.
-fn put_line<D: fmt::Display + Drop, O: Write>(
-    text: D,
-    output: &mut O,
-) -> Result<(), ExplainError> {
+fn put_line<D: fmt::Display + Drop, O: Write>(text: D, output: &mut O) -> Result<(), ExplainError> {
     match writeln!(output, "{text}") {
         Ok(()) => Ok(()),
         Err(error) => Err(ExplainError::from(error)),
