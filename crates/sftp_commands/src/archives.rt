@@ -39,7 +39,10 @@ pub fn import<'a, R: System + Clock, I: Read, E: Write + IsTerminal>(
     let mut meter = Meter::new(rt, options.memory)?;
     let imported = taken_in_view(rt, options.taking, &mut meter, input, console);
     drop(meter);
-    write_imported(rt, options, imported?, console)
+    match imported {
+        Ok(imported) => write_imported(rt, options, imported, console),
+        Err(failure) => Err(failure),
+    }
 }
 
 /// Writes the tree file that an archive gave. Standard error names what became of its devices and FIFOs.

@@ -3,10 +3,11 @@ ghost use Rattle.std.specs.Prelude.{◌≡◌, ◌≢◌};
 ghost use Rattle.sftp_files.specs.declared.messages.Ending.TheVariants as endings;
 ghost use Rattle.sftp_commands.specs.Sameness.{compared_part};
 
+use crate::objects::printed;
 use crate::sameness::is_same;
 use crate::trees::rows_in_view;
 use sftp_diff::{put_differences, put_objects};
-use sftp_files::{DiffForm, Ending, Failure, STANDARD_OUTPUT, System};
+use sftp_files::{DiffForm, Ending, Failure, System};
 use sftp_progress::{Console, Task};
 use sftp_treefile::{TreeError, TreeFile};
 use std::io;
@@ -27,10 +28,15 @@ pub fn diff<'a, R: System + Clock, O: Write, E: Write + IsTerminal>(
     console: &mut Console<'_, E>,
 ) -> Result<Ending, Failure<'a>> {
     let (old, new) = names;
-    let most = memory.map(|bytes| bytes / SHARE).unwrap_or(u64::MAX);
+    let most = most_of(memory);
     let before = rows_in_view(rt, old, most, Task::ReadOld, console)?;
     match rows_in_view(rt, new, most, Task::ReadNew, console) {
-        Ok(after) => diff_read((old, before), (new, after), form, output),
+        Ok(after) => {
+            let ended = diff_read((old, &before), (new, &after), form, output);
+            drop(before);
+            drop(after);
+            ended
+        }
         Err(failure) => {
             drop(before);
             Err(failure)
@@ -38,53 +44,39 @@ pub fn diff<'a, R: System + Clock, O: Write, E: Write + IsTerminal>(
     }
 }
 
-/// What a tree file says, or its fault, and its name before that.
-type FileRead<'a> = (&'a str, Result<TreeFile, TreeError>);
-
-/// Shows how two tree files differ that were read.
-fn diff_read<'a, O: Write>(
-    old: FileRead<'a>,
-    new: FileRead<'a>,
-    form: DiffForm,
-    output: &mut O,
-) -> Result<Ending, Failure<'a>> {
-    match sound(old) {
-        Ok(old) => {
-            let ended = diff_from(&old, new, form, output);
-            drop(old);
-            ended
-        }
-        Err(failure) => {
-            drop(new);
-            Err(failure)
-        }
+/// The most bytes that either file may have where the memory may have so many.
+fn most_of(memory: Option<u64>) -> u64 {
+    match memory {
+        Some(bytes) => bytes / SHARE,
+        None => u64::MAX,
     }
 }
 
-/// Shows how a tree file that was read differs from another one.
-fn diff_from<'a, O: Write>(
-    old: &TreeFile,
-    new: FileRead<'a>,
+/// What a tree file says, or its fault, and its name before that.
+type FileRead<'f, 'a> = (&'a str, &'f Result<TreeFile, TreeError>);
+
+/// Shows how two tree files differ that were read.
+fn diff_read<'a, O: Write>(
+    old: FileRead<'_, 'a>,
+    new: FileRead<'_, 'a>,
     form: DiffForm,
     output: &mut O,
 ) -> Result<Ending, Failure<'a>> {
+    let old = sound(old)?;
     let new = sound(new)?;
-    let shown = show(old, &new, form, output);
-    let ending = compared(old, &new, form.with_times);
-    drop(new);
-    match shown {
-        Ok(()) => Ok(ending),
+    match show(old, new, form, output) {
+        Ok(()) => Ok(compared(old, new, form.with_times)),
         Err(failure) => Err(failure),
     }
 }
 
 /// What a tree file says, or the failure of the run for its fault.
-fn sound<'a>(file: FileRead<'a>) -> Result<TreeFile, Failure<'a>> {
+fn sound<'f, 'a>(file: FileRead<'f, 'a>) -> Result<&'f TreeFile, Failure<'a>> {
     let (name, read) = file;
     match read {
         Ok(file) => Ok(file),
         Err(TreeError::NoMemory) => Err(Failure::OutOfMemory),
-        Err(error) => Err(Failure::TreeOf(name, error)),
+        Err(error) => Err(Failure::TreeOf(name, *error)),
     }
 }
 
@@ -112,10 +104,7 @@ fn show<'a, O: Write>(
     } else {
         put_flushed(old, new, form.with_times, output)
     };
-    match put {
-        Ok(()) => Ok(()),
-        Err(error) => Err(Failure::writing(STANDARD_OUTPUT, &error)),
-    }
+    printed(put)
 }
 
 fn put_flushed<O: Write>(

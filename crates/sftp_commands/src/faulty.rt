@@ -123,17 +123,14 @@ impl<'a> Faulty<'a> {
 
 impl fmt::Display for Faulty<'_> {
     fn fmt<W: fmt::Write>(&self, f: &mut fmt::Formatter<W>) -> fmt::Result {
+        let name = Named(self.name);
         match self.format {
             Some(format) => {
-                let name = Named(self.name);
                 let text = format.text();
-                write!(f, "{name} is {text}")?;
-                f.write_str(advice(format, self.taken_for))
+                let advice = advice(format, self.taken_for);
+                write!(f, "{name} is {text}{advice}")
             }
-            None => {
-                let name = Named(self.name);
-                write!(f, "file: {name}")
-            }
+            None => write!(f, "file: {name}"),
         }
     }
 }
@@ -149,25 +146,19 @@ fn advice(format: Format, taken_for: Role) -> &'static str {
 
 /// The file of a run that failed because it is malformed, without a look at it.
 fn faulty_of<'a>(files: ReadFiles<'a>, failure: &Failure<'a>) -> Option<Faulty<'a>> {
-    match failure {
-        Failure::Tree(_) => Some(unseen(files.tree?, Role::Tree)),
-        Failure::Transcript(_) => Some(unseen(files.transcript?, Role::Transcript)),
-        Failure::UnknownFile => Some(unseen(files.either?, Role::Either)),
-        Failure::TreeOf(name, _) => Some(Faulty {
-            is_named: true,
-            ..unseen(*name, Role::Tree)
-        }),
-        _ => None,
-    }
-}
-
-fn unseen<'a>(name: &'a str, taken_for: Role) -> Faulty<'a> {
-    Faulty {
-        name,
+    let (name, taken_for, is_named) = match failure {
+        Failure::Tree(_) => (files.tree, Role::Tree, false),
+        Failure::Transcript(_) => (files.transcript, Role::Transcript, false),
+        Failure::UnknownFile => (files.either, Role::Either, false),
+        Failure::TreeOf(name, _) => (Some(*name), Role::Tree, true),
+        _ => return None,
+    };
+    Some(Faulty {
+        name: name?,
         format: None,
         taken_for,
-        is_named: false,
-    }
+        is_named,
+    })
 }
 
 /// Whether a file is malformed in its first bytes.

@@ -39,7 +39,10 @@ pub(crate) fn show_full<'a, R: Files + AllocGlobal, O: Write>(
     ensures { IfOk result (λ ending. ending ≡ endings.Done) }
 {
     let limit = limit_of(rt.alloc(), options.data)?;
-    let most = options.memory.map(|bytes| bytes / SHARE);
+    let most = match options.memory {
+        Some(bytes) => Some(bytes / SHARE),
+        None => None,
+    };
     let mut lines = Lines {
         output,
         limit,
@@ -76,11 +79,13 @@ fn show_file<'a, R: Files + AllocGlobal, O: Write>(
     most: Option<u64>,
     lines: &mut Lines<'_, O>,
 ) -> Result<(), Failure<'a>> {
-    let file = open(rt, name)?;
-    match show_stream(rt.alloc(), name, file, most, lines) {
-        Ok(()) => Ok(()),
-        Err(Stop::Failed(failure)) => Err(failure),
-        Err(Stop::Unfit) => Err(fault_in(rt, name)),
+    match open(rt, name) {
+        Ok(file) => match show_stream(rt.alloc(), name, file, most, lines) {
+            Ok(()) => Ok(()),
+            Err(Stop::Failed(failure)) => Err(failure),
+            Err(Stop::Unfit) => Err(fault_in(rt, name)),
+        },
+        Err(failure) => Err(failure),
     }
 }
 
@@ -127,12 +132,6 @@ enum Stop<'a> {
     Unfit,
     /// Another failure.
     Failed(Failure<'a>),
-}
-
-impl<'a> From<Failure<'a>> for Stop<'a> {
-    fn from(failure: Failure<'a>) -> Self {
-        Stop::Failed(failure)
-    }
 }
 
 impl From<AllocError> for Stop<'_> {
@@ -184,10 +183,13 @@ impl<O: Write> Lines<'_, O> {
         if self.text.push(b'\n').is_err() {
             return Err(Stop::Failed(Failure::OutOfMemory));
         }
-        if self.text.len() >= CHUNK {
-            self.print()?;
+        if self.text.len() < CHUNK {
+            return Ok(());
         }
-        Ok(())
+        match self.print() {
+            Ok(()) => Ok(()),
+            Err(failure) => Err(Stop::Failed(failure)),
+        }
     }
 }
 
@@ -335,8 +337,10 @@ impl<'a, F: Read> Window<'a, F> {
         };
         let wanted = self.limited(record_length(self.front()));
         self.hold(wanted)?;
-        self.show_packet(side, line, lines)?;
-        Ok(true)
+        match self.show_packet(side, line, lines) {
+            Ok(()) => Ok(true),
+            Err(stop) => Err(stop),
+        }
     }
 
     /// Appends the line of the record in front, which is of this side and held as far as it is shown. `line` is room

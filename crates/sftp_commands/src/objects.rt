@@ -23,6 +23,16 @@ pub fn ended<'a>(printed: io::Result<()>, ending: Ending) -> Result<Ending, Fail
     }
 }
 
+/// Whether something was printed: the failure of the run if it was not.
+pub(crate) fn printed<'a>(put: io::Result<()>) -> Result<(), Failure<'a>>
+    ensures { IfErr result IsUnwritten }
+{
+    match put {
+        Ok(()) => Ok(()),
+        Err(error) => Err(Failure::writing(STANDARD_OUTPUT, &error)),
+    }
+}
+
 /// Prints the object of a run that failed, with what is known of the malformed file, and where its fault is. If it
 /// cannot be written, there is nothing left to do.
 pub fn print_failed<'a, O: Write>(
@@ -42,7 +52,8 @@ pub fn print_failed<'a, O: Write>(
     put_spot(spot, &mut json);
     json.close();
     json.end_line();
-    let _ = json.finish();
+    drop(json.finish());
+    drop(json);
 }
 
 /// Whether standard output failed, to which no more is written then.
@@ -76,8 +87,14 @@ fn put_file<'a, O: Write>(
     if let Some(name) = name_of(failure, file) {
         json.word("file", name);
     }
-    if let Some(format) = file.and_then(|file| file.format) {
-        json.word("found", format.word());
+    match file {
+        Some(
+            Faulty {
+                format: Some(format),
+                ..
+            },
+        ) => json.word("found", format.word()),
+        _ => {}
     }
     match failure {
         Failure::Tree(error) | Failure::TreeOf(_, error) => {
@@ -96,7 +113,10 @@ fn name_of<'a>(failure: &Failure<'a>, file: Option<Faulty<'a>>) -> Option<&'a st
         Failure::CannotReplace(name, _) => Some(*name),
         Failure::Unfit(name, _) => Some(*name),
         Failure::OverLimit(name) => Some(*name),
-        _ => file.map(|file| file.name),
+        _ => match file {
+            Some(file) => Some(file.name),
+            None => None,
+        },
     }
 }
 

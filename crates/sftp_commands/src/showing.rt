@@ -2,8 +2,9 @@
 ghost use Rattle.std.specs.Prelude.{◌≡◌, IfOk};
 ghost use Rattle.sftp_files.specs.declared.messages.Ending.TheVariants as endings;
 
+use crate::objects::printed;
 use crate::trees::rows_of;
-use sftp_files::{Ending, Failure, STANDARD_OUTPUT, open};
+use sftp_files::{Ending, Failure, open};
 use sftp_show::{ShowError, show_transcript, show_tree};
 use sftp_transcript::{OPENING, Reader, Tally};
 use sftp_treefile::{TreeError, TreeFile};
@@ -23,7 +24,7 @@ pub(crate) fn show<'a, R: Files + AllocGlobal, O: Write>(
     let mut file = open(rt, name)?;
     let shown = show_file(rt.alloc(), name, &mut file, output);
     drop(file);
-    outcome(shown, flush(output))
+    outcome(shown, printed(output.flush()))
 }
 
 /// The outcome of a run by how a file was shown and printed. A failure to print comes before one to show.
@@ -34,21 +35,14 @@ pub(crate) fn outcome<'a>(
     ensures { IfOk result (λ ending. ending ≡ endings.Done) }
 {
     match printed {
-        Ok(()) => {
-            shown?;
-            Ok(Ending::Done)
-        }
+        Ok(()) => match shown {
+            Ok(()) => Ok(Ending::Done),
+            Err(failure) => Err(failure),
+        },
         Err(failure) => {
             drop(shown);
             Err(failure)
         }
-    }
-}
-
-fn flush<'a, O: Write>(output: &mut O) -> Result<(), Failure<'a>> {
-    match output.flush() {
-        Ok(()) => Ok(()),
-        Err(error) => Err(Failure::writing(STANDARD_OUTPUT, &error)),
     }
 }
 
@@ -114,7 +108,7 @@ fn shown_or_failure<'a>(shown: Result<(), ShowError>, name: &'a str) -> Result<(
     match shown {
         Ok(()) => Ok(()),
         Err(ShowError::Transcript(error)) => Err(Failure::of_transcript(error, name)),
-        Err(ShowError::Output(error)) => Err(Failure::writing(STANDARD_OUTPUT, &error)),
+        Err(ShowError::Output(error)) => printed(Err(error)),
     }
 }
 
@@ -127,7 +121,7 @@ fn show_rows<'a, F: Read + Drop, O: Write>(
     let file = shown_tree(alloc, name, file)?;
     let shown = show_tree(&file, output);
     drop(file);
-    shown.map_err(|error| Failure::writing(STANDARD_OUTPUT, &error))
+    printed(shown)
 }
 
 /// What the file `name`, which is no transcript, says as a tree file.

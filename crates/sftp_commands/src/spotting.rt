@@ -47,7 +47,10 @@ fn transcript_spot<R: Files + AllocGlobal>(
         None
     };
     drop(bytes);
-    spot.map(|spot| spot.behind(start))
+    match spot {
+        Some(spot) => Some(spot.behind(start)),
+        None => None,
+    }
 }
 
 /// The place of the record with this fault of a transcript, or 0 if the opening has it.
@@ -64,11 +67,17 @@ fn start_of_fault<R: Files + AllocGlobal>(
 
 /// Where the first unreadable record begins.
 fn start_of_record<R: Files + AllocGlobal>(rt: &R, name: &str) -> Option<u64> {
-    let file = fs::open(rt, name).ok()?;
-    let mut records = Reader::new(rt.alloc(), Tally::new(file)).ok()?;
-    let start = end_of_records(&mut records);
-    drop(records);
-    Some(start)
+    match fs::open(rt, name) {
+        Ok(file) => match Reader::new(rt.alloc(), Tally::new(file)) {
+            Ok(mut records) => {
+                let start = end_of_records(&mut records);
+                drop(records);
+                Some(start)
+            }
+            Err(_) => None,
+        },
+        Err(_) => None,
+    }
 }
 
 /// Where the readable records end. The reader has read nothing yet.

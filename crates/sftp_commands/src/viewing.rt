@@ -3,6 +3,7 @@ ghost use Rattle.std.specs.Prelude.{◌≡◌, IfOk};
 ghost use Rattle.sftp_files.specs.declared.messages.Ending.TheVariants as endings;
 
 use crate::cuts::limit_of;
+use crate::objects::printed;
 use crate::selecting::{Wanted, read_wanted};
 use crate::showing::{is_transcript_read, outcome, shown_tree};
 use sftp_files::{Ending, Failure, Named, STANDARD_OUTPUT, ShowOptions, open};
@@ -51,10 +52,14 @@ pub(crate) fn view<'a, R: Files + AllocGlobal, O: Write>(
     ensures { IfOk result (λ ending. ending ≡ endings.Done) }
 {
     let limit = limit_of(rt.alloc(), options.data)?;
-    let wanted = read_wanted(rt.alloc(), options)?;
-    let shown = view_wanted(rt, options, &wanted, limit, output);
-    drop(wanted);
-    outcome(shown, Ok(()))
+    match read_wanted(rt.alloc(), options) {
+        Ok(wanted) => {
+            let shown = view_wanted(rt, options, &wanted, limit, output);
+            drop(wanted);
+            outcome(shown, Ok(()))
+        }
+        Err(failure) => Err(failure),
+    }
 }
 
 /// Shows what is wanted, with at most so many bytes of each text.
@@ -156,20 +161,24 @@ fn view_records<'a, F: Read + Drop, C: Read + Drop, O: Write>(
     drop(clock);
     match shown {
         Ok(()) => Ok(()),
-        Err(error) => Err(failure_of(alloc, options, error)),
+        Err(error) => {
+            let failure = failure_of(alloc, options, &error);
+            drop(error);
+            Err(failure)
+        }
     }
 }
 
 /// Why a transcript is not shown to its end, as a failure of the run.
-fn failure_of<'a>(alloc: Global, options: &ShowOptions<'a>, error: ViewError) -> Failure<'a> {
+fn failure_of<'a>(alloc: Global, options: &ShowOptions<'a>, error: &ViewError) -> Failure<'a> {
     match error {
-        ViewError::Transcript(error) => Failure::of_transcript(error, options.file),
+        ViewError::Transcript(error) => Failure::of_transcript(*error, options.file),
         ViewError::Times(error) => Failure::of_text(format!(in alloc; "times: {error}")),
         ViewError::Spare { entry } => {
             Failure::of_text(format!(in alloc; "times: entry {entry}: Trailing"))
         }
-        ViewError::Clock(error) => Failure::reading(options.times.unwrap_or(""), &error),
-        ViewError::Output(error) => Failure::writing(STANDARD_OUTPUT, &error),
+        ViewError::Clock(error) => Failure::reading(options.times.unwrap_or(""), error),
+        ViewError::Output(error) => Failure::writing(STANDARD_OUTPUT, error),
         ViewError::NoMemory => Failure::OutOfMemory,
     }
 }
@@ -196,10 +205,7 @@ fn put_rows<'a, O: Write>(
     output: &mut O,
 ) -> Result<(), Failure<'a>> {
     match form {
-        Form::Json(limit) if !picks_records(options) => match put_tree(file, limit, output) {
-            Ok(()) => Ok(()),
-            Err(error) => Err(Failure::writing(STANDARD_OUTPUT, &error)),
-        },
+        Form::Json(limit) if !picks_records(options) => printed(put_tree(file, limit, output)),
         _ => Err(no_transcript(alloc, options.file)),
     }
 }

@@ -4,7 +4,6 @@ use Rattle.std.specs.Prelude.{option_and_then, codes, ◌||◌, true, false, not
 use Rattle.std.specs.Prelude.{is_some}
 use Rattle.std.specs.Prelude.{◌≡◌, ◌⊎◌}
 use Rattle.std.specs.Option.{option_map}
-use Rattle.std.specs.Str.Parse.{IsNumeral, digits_value}
 use Rattle.clap.specs.Walk.{Row}
 use Rattle.clap.specs.declared.parser.matches.Found.{Found}
 use Rattle.clap.specs.Matches.{matched_of, raw_values, first_value}
@@ -13,7 +12,7 @@ use Rattle.sftp_profile.specs.declared.profiles.NewOwner.{NewOwner}
 use Rattle.sftp_profile.specs.declared.profiles.NewOwner.TheVariants.{User, Given, Group, Posix}
 use Rattle.sftp_profile.specs.Profiles.{strict, posix, posix_user}
 use Rattle.sftp_profile.specs.Profiles.{with_name}
-use Rattle.sftp_options.specs.declared.command_line.AuditOptions.{AuditOptions}
+use Rattle.sftp_verdicts.specs.declared.asked.AuditOptions.{AuditOptions}
 use Rattle.sftp_options.specs.declared.command_line.Request.{Request}
 use Rattle.sftp_options.specs.declared.command_line.Request.TheVariants as requests
 use Rattle.sftp_tar.specs.declared.choices.LimitChoice.{LimitChoice}
@@ -33,10 +32,6 @@ value_in rows name = option_and_then (λ (values : List (List ℕ)). slice_get v
 -- a flag with this value is given: the parser's value for it is `true`
 abbrev pub is_given : Option (List ℕ) → Bool
 is_given value = bytes_eq (unwrap_or value (codes "")) (codes "true")
-
--- permissions as text: one to four octal digits, of a number up to 0777
-abbrev pub IsPermissions : List ℕ → Type 0
-IsPermissions text = IsNumeral 8 text × (length text ≤ 4) × (digits_value 8 text ≤ 511)
 
 -- ==== The profile that the options of `audit` name.
 
@@ -68,10 +63,6 @@ owner_by rule =
 abbrev pub with_rule : Profile → Option (List ℕ) → Profile
 with_rule profile rule =
     if profile.made then record profile { new_owner = owner_by (unwrap_or rule (codes "user")) } else profile
-
--- the profile with this umask, which says something only with that departure
-abbrev pub with_umask : Profile → ℕ → Profile
-with_umask profile umask = if profile.made then record profile { umask = umask } else profile
 
 -- What the options say, each by its values, in the order given: what the profile is based on, the departures that are
 -- allowed besides, those that are excepted, the rule of who owns what is made, and the order of the paths of SYMLINK.

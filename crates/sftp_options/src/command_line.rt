@@ -5,21 +5,21 @@ ghost use Rattle.std.specs.Str.Parse.{digits_value};
 ghost use Rattle.clap.specs.Matches.{found_of};
 ghost use Rattle.clap.specs.Simple.{subcommand_rows_of};
 ghost use Rattle.clap.specs.Walk.{Row, rows_of};
-ghost use Rattle.sftp_options.specs.Options.{IsPermissions, value_in, is_given};
+ghost use Rattle.sftp_verdicts.specs.Umasks.{IsPermissions};
+ghost use Rattle.sftp_options.specs.Options.{value_in, is_given};
 ghost use Rattle.sftp_options.specs.Options.{IsAuditAsked, IsAuditRequest, LacksFile};
 
 use crate::arguments::{
     AUDIT, Argument, BLANK, DIFF, EXPORT, Form, IMPORT, INFER, MAKE, RAISE, SERVE, SHOW,
 };
-use crate::inferring::InferOptions;
-use crate::{help, importing, inferring, profiles};
+use crate::{help, importing, profiles, searching};
 use clap::error::ErrorKind;
 use clap::{Arg, ArgAction, ArgMatches, Command, Error, value_parser};
 use sftp_files::{
     DiffForm, Failure, ImportOptions, Keeping, MORE, PRIVATE, RaiseTo, ServeOptions, ShowOptions,
 };
-use sftp_profile::Profile;
 use sftp_vary::{Freedoms, Style, Variation, Words};
+use sftp_verdicts::{AuditOptions, InferOptions, octal};
 use std::alloc::{AllocError, Global};
 
 /// What a command line asks for.
@@ -70,37 +70,6 @@ pub enum Request<'a> {
     },
     /// Print this text: help or the version.
     Help(String),
-}
-
-/// The options of `audit`.
-#[derive(Clone, Copy)]
-pub struct AuditOptions<'a> {
-    /// The tree file that the session starts from.
-    pub tree: &'a str,
-    /// The recorded bytes of the session.
-    pub transcript: &'a str,
-    /// The file to write the final tree to.
-    pub out: Option<&'a str>,
-    /// How that file is written.
-    pub keeping: Keeping,
-    /// The most bytes of memory that the process may have.
-    pub memory: Option<u64>,
-    /// Whether standard error explains a refusal, or where a file is malformed.
-    pub explains: bool,
-    /// Whether the verdict is a JSON object.
-    pub is_json: bool,
-    /// Whether a session that was cut is accepted if what comes before its oldest unanswered request is right.
-    pub cuts: bool,
-    /// Whether the audit goes on behind wrong replies that changed nothing.
-    pub keeps_going: bool,
-    /// The most findings of such an audit.
-    pub most: Option<u64>,
-    /// Which departures from the strict reading are accepted; none where the session is judged strictly.
-    pub profile: Option<Profile>,
-    /// The permissions that are taken from whatever is made, as octal digits.
-    pub umask: Option<&'a str>,
-    /// Whether standard error says how far the audit is, also where it is no terminal.
-    pub says_progress: bool,
 }
 
 /// Parses the command line of the program in this version. The first word is the program's name. To ask for help or the
@@ -197,7 +166,7 @@ fn requested<'a>(matches: &ArgMatches<'a>) -> Option<Request<'a>>
         "show" => show_options(given).map(Request::Show),
         "raise" => raise_request(given),
         "diff" => diff_request(given),
-        "infer" => inferring::options_of(given).map(Request::Infer),
+        "infer" => searching::options_of(given).map(Request::Infer),
         "import" => import_request(given),
         "export" => export_request(given),
         _ => file_request(name, given.get_str("file")?, keeping_of(given)),
@@ -303,7 +272,7 @@ fn mode_of(text: Option<&str>) -> u32
     ensures usual { option_map (λ mode. mode.now) text.entry ≡ None → result ≡ PRIVATE }
 {
     match text {
-        Some(text) => profiles::octal(text).unwrap_or(PRIVATE),
+        Some(text) => octal(text).unwrap_or(PRIVATE),
         None => PRIVATE,
     }
 }
@@ -399,21 +368,43 @@ fn command<'a>(alloc: Global, version: &'a str) -> Result<Command<'a>, AllocErro
         .about(help::ABOUT)
         .after_help(help::STATUSES)
         .subcommand_required(true);
-    let command = with_subcommand(command, serve_command(alloc))?;
-    let command = with_subcommand(command, audit_command(alloc))?;
-    let command = with_subcommand(command, show_command(alloc))?;
-    let command = with_subcommand(command, make_command(alloc))?;
+    let serve = described(alloc, "serve", help::ABOUT_SERVE, help::AFTER_SERVE, SERVE);
+    let command = with_subcommand(command, serve)?;
+    let audit = described(alloc, "audit", help::ABOUT_AUDIT, help::AFTER_AUDIT, AUDIT);
+    let command = with_subcommand(command, audit)?;
+    let show = described(alloc, "show", help::ABOUT_SHOW, help::AFTER_SHOW, SHOW);
+    let command = with_subcommand(command, show)?;
+    let make = described(alloc, "make", help::ABOUT_MAKE, help::AFTER_MAKE, MAKE);
+    let command = with_subcommand(command, make)?;
     with_tree_commands(alloc, command)
 }
 
 /// The command with the subcommands that compare or make trees.
 fn with_tree_commands<'a>(alloc: Global, command: Command<'a>) -> Result<Command<'a>, AllocError> {
-    let command = with_subcommand(command, diff_command(alloc))?;
-    let command = with_subcommand(command, infer_command(alloc))?;
-    let command = with_subcommand(command, import_command(alloc))?;
-    let command = with_subcommand(command, export_command(alloc))?;
-    let command = with_subcommand(command, raise_command(alloc))?;
-    with_subcommand(command, blank_command(alloc))
+    let diff = described(alloc, "diff", help::ABOUT_DIFF, help::AFTER_DIFF, DIFF);
+    let command = with_subcommand(command, diff)?;
+    let infer = described(alloc, "infer", help::ABOUT_INFER, help::AFTER_INFER, INFER);
+    let command = with_subcommand(command, infer)?;
+    let import = described(
+        alloc,
+        "import",
+        help::ABOUT_IMPORT,
+        help::AFTER_IMPORT,
+        IMPORT,
+    );
+    let command = with_subcommand(command, import)?;
+    let export = described(
+        alloc,
+        "export",
+        help::ABOUT_EXPORT,
+        help::AFTER_EXPORT,
+        EXPORT,
+    );
+    let command = with_subcommand(command, export)?;
+    let raise = described(alloc, "raise", help::ABOUT_RAISE, help::AFTER_RAISE, RAISE);
+    let command = with_subcommand(command, raise)?;
+    let blank = Command::new(alloc, "blank").about(help::ABOUT_BLANK);
+    with_subcommand(command, with_arguments(alloc, blank, BLANK))
 }
 
 /// The command with a further subcommand.
@@ -430,72 +421,16 @@ fn with_subcommand<'a>(
     }
 }
 
-fn serve_command<'a>(alloc: Global) -> Result<Command<'a>, AllocError> {
-    let command = Command::new(alloc, "serve")
-        .about(help::ABOUT_SERVE)
-        .after_help(help::AFTER_SERVE);
-    with_arguments(alloc, command, SERVE)
-}
-
-fn audit_command<'a>(alloc: Global) -> Result<Command<'a>, AllocError> {
-    let command = Command::new(alloc, "audit")
-        .about(help::ABOUT_AUDIT)
-        .after_help(help::AFTER_AUDIT);
-    with_arguments(alloc, command, AUDIT)
-}
-
-fn show_command<'a>(alloc: Global) -> Result<Command<'a>, AllocError> {
-    let command = Command::new(alloc, "show")
-        .about(help::ABOUT_SHOW)
-        .after_help(help::AFTER_SHOW);
-    with_arguments(alloc, command, SHOW)
-}
-
-fn make_command<'a>(alloc: Global) -> Result<Command<'a>, AllocError> {
-    let command = Command::new(alloc, "make")
-        .about(help::ABOUT_MAKE)
-        .after_help(help::AFTER_MAKE);
-    with_arguments(alloc, command, MAKE)
-}
-
-fn diff_command<'a>(alloc: Global) -> Result<Command<'a>, AllocError> {
-    let command = Command::new(alloc, "diff")
-        .about(help::ABOUT_DIFF)
-        .after_help(help::AFTER_DIFF);
-    with_arguments(alloc, command, DIFF)
-}
-
-fn infer_command<'a>(alloc: Global) -> Result<Command<'a>, AllocError> {
-    let command = Command::new(alloc, "infer")
-        .about(help::ABOUT_INFER)
-        .after_help(help::AFTER_INFER);
-    with_arguments(alloc, command, INFER)
-}
-
-fn import_command<'a>(alloc: Global) -> Result<Command<'a>, AllocError> {
-    let command = Command::new(alloc, "import")
-        .about(help::ABOUT_IMPORT)
-        .after_help(help::AFTER_IMPORT);
-    with_arguments(alloc, command, IMPORT)
-}
-
-fn export_command<'a>(alloc: Global) -> Result<Command<'a>, AllocError> {
-    let command = Command::new(alloc, "export")
-        .about(help::ABOUT_EXPORT)
-        .after_help(help::AFTER_EXPORT);
-    with_arguments(alloc, command, EXPORT)
-}
-
-fn raise_command<'a>(alloc: Global) -> Result<Command<'a>, AllocError> {
-    let command = Command::new(alloc, "raise")
-        .about(help::ABOUT_RAISE)
-        .after_help(help::AFTER_RAISE);
-    with_arguments(alloc, command, RAISE)
-}
-
-fn blank_command<'a>(alloc: Global) -> Result<Command<'a>, AllocError> {
-    let command = Command::new(alloc, "blank").about(help::ABOUT_BLANK);
-    with_arguments(alloc, command, BLANK)
+/// The subcommand of this name, with what help says of it and behind it.
+fn described<'a>(
+    alloc: Global,
+    name: &'a str,
+    about: &'a str,
+    after: &'a str,
+    arguments: &'a [Argument<'a>],
+) -> Result<Command<'a>, AllocError> {
+    let command = Command::new(alloc, name).about(about).after_help(after);
+    with_arguments(alloc, command, arguments)
 }
 
 /// The command with further arguments.
@@ -506,42 +441,21 @@ fn with_arguments<'a>(
 ) -> Result<Command<'a>, AllocError> {
     let mut command = command;
     for (name, form, help) in arguments {
-        command = with_argument(command, new_argument(alloc, name, *form, help))?;
+        command = command.arg(new_argument(alloc, name, *form, help))?;
     }
     Ok(command)
 }
 
-/// The command with a further argument.
-fn with_argument<'a>(
-    command: Command<'a>,
-    argument: Result<Arg<'a>, AllocError>,
-) -> Result<Command<'a>, AllocError> {
-    match argument {
-        Ok(argument) => command.arg(argument),
-        Err(error) => {
-            drop(command);
-            Err(error)
-        }
-    }
-}
-
-fn new_argument<'a>(
-    alloc: Global,
-    name: &'a str,
-    form: Form<'a>,
-    help: &'a str,
-) -> Result<Arg<'a>, AllocError> {
+fn new_argument<'a>(alloc: Global, name: &'a str, form: Form<'a>, help: &'a str) -> Arg<'a> {
     let arg = Arg::new(alloc, name).help(help);
     match form {
-        Form::Flag => Ok(arg.long(name).action(ArgAction::SetTrue)),
-        Form::Place(label) => Ok(valued(arg, label).required(true)),
-        Form::Required(label) => Ok(valued(arg.long(name), label).required(true)),
-        Form::Optional(label) => Ok(valued(arg.long(name), label)),
-        Form::Number(label) => {
-            Ok(valued(arg.long(name), label).value_parser(value_parser!(u64)))
-        }
-        Form::OneOf(label, values) => Ok(valued(arg.long(name), label).value_parser(values)),
-        Form::SomeOf(label, values) => Ok(listed(arg.long(name), label, values)),
+        Form::Flag => arg.long(name).action(ArgAction::SetTrue),
+        Form::Place(label) => valued(arg, label).required(true),
+        Form::Required(label) => valued(arg.long(name), label).required(true),
+        Form::Optional(label) => valued(arg.long(name), label),
+        Form::Number(label) => { valued(arg.long(name), label).value_parser(value_parser!(u64)) }
+        Form::OneOf(label, values) => valued(arg.long(name), label).value_parser(values),
+        Form::SomeOf(label, values) => listed(arg.long(name), label, values),
     }
 }
 

@@ -5,10 +5,8 @@ mod arguments;
 mod command_line;
 mod help;
 mod importing;
-mod inferring;
 mod profiles;
 mod requests;
+mod searching;
 
-pub use command_line::{AuditOptions, Request, parse};
-pub use inferring::InferOptions;
-pub use profiles::{umask_of, with_umask};
+pub use command_line::{Request, parse};

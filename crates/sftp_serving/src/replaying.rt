@@ -267,17 +267,15 @@ impl Parting {
 impl fmt::Display for Parting {
     fn fmt<W: fmt::Write>(&self, f: &mut fmt::Formatter<W>) -> fmt::Result {
         let record = self.record;
-        match self.why {
-            Why::Unasked => write!(f, "left at record {record}: no request came"),
-            Why::Other => write!(f, "left at record {record}: another request came"),
-            Why::Unanswerable => write!(
-                f,
-                "left at record {record}: no request waits for this reply"
-            ),
-            Why::Over => write!(f, "left after record {record}, which is the last"),
-            Why::NoMemory => write!(f, "left after record {record}: too little memory"),
-            Why::Unread(error) => write!(f, "left at {error}"),
-        }
+        let (place, why) = match self.why {
+            Why::Unasked => ("at", ": no request came"),
+            Why::Other => ("at", ": another request came"),
+            Why::Unanswerable => ("at", ": no request waits for this reply"),
+            Why::Over => ("after", ", which is the last"),
+            Why::NoMemory => ("after", ": too little memory"),
+            Why::Unread(error) => return write!(f, "left at {error}"),
+        };
+        write!(f, "left {place} record {record}{why}")
     }
 }
 

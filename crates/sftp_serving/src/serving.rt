@@ -18,6 +18,7 @@ use sftp_files::{
 use sftp_server::{Ended, InOrder, Schedule, SessionEnd, SessionFault, Shuffle, Step, Stream};
 use sftp_transcript::{Tally, Writer};
 use sftp_tree::Tree;
+use sftp_treefile::TreeError;
 use sftp_vary::Style;
 use sftp_wire::Request;
 use std::io::{Read, Write};
@@ -71,11 +72,19 @@ pub fn serve<'a, R: System + Clock, I: Read, O: Write, E: Write>(
     require_place(rt, options)?;
     keep_freed_memory(rt.alloc(), KEPT);
     let mut meter = Meter::new(rt, options.memory)?;
-    let setup = set_up(rt, options, style)?;
-    let announcing = Announcing::new(output, errors, options.is_verbose);
-    let output = Pieces::new(announcing, style.cuts());
-    let (finish, traffic) = run_session(rt, setup, &mut meter, input, output);
-    conclude(rt, finish, traffic, options, errors)
+    match set_up(rt, options, style) {
+        Ok(setup) => {
+            let announcing = Announcing::new(output, errors, options.is_verbose);
+            let output = Pieces::new(announcing, style.cuts());
+            let (finish, traffic) = run_session(rt, setup, &mut meter, input, output);
+            drop(meter);
+            conclude(rt, finish, traffic, options, errors)
+        }
+        Err(failure) => {
+            drop(meter);
+            Err(Unserved::Failed(failure))
+        }
+    }
 }
 
 /// What a session needs besides its streams.
@@ -233,12 +242,37 @@ fn first_tree<'a, R: System>(
     options: &ServeOptions<'a>,
     keeps_times: bool,
 ) -> Result<(Tree, Option<TimeTable>), Failure<'a>> {
-    if !keeps_times {
-        return Ok((read_tree(rt, options.tree, options.memory)??, None));
+    if keeps_times {
+        return timed_tree(rt, options);
     }
+    match fit(read_tree(rt, options.tree, options.memory)) {
+        Ok(tree) => Ok((tree, None)),
+        Err(failure) => Err(failure),
+    }
+}
+
+/// The tree that the session starts from, and its times.
+fn timed_tree<'a, R: System>(
+    rt: &R,
+    options: &ServeOptions<'a>,
+) -> Result<(Tree, Option<TimeTable>), Failure<'a>> {
     let mut times = TimeTable::new(rt.alloc());
-    let tree = read_tree_looking(rt, options.tree, options.memory, &mut times)??;
-    Ok((tree, Some(times)))
+    match fit(read_tree_looking(rt, options.tree, options.memory, &mut times)) {
+        Ok(tree) => Ok((tree, Some(times))),
+        Err(failure) => {
+            drop(times);
+            Err(failure)
+        }
+    }
+}
+
+/// A tree that was read, or why the run fails: a fault of its file, or another failure.
+fn fit<'a>(read: Result<Result<Tree, TreeError>, Failure<'a>>) -> Result<Tree, Failure<'a>> {
+    match read {
+        Ok(Ok(tree)) => Ok(tree),
+        Ok(Err(fault)) => Err(Failure::from(fault)),
+        Err(failure) => Err(failure),
+    }
 }
 
 /// The writer of a new record.
@@ -503,15 +537,26 @@ impl Order {
     fn new<'a, R: System>(rt: &R, options: &ServeOptions<'a>) -> Result<Order, Failure<'a>> {
         match (options.shuffle, options.replay) {
             (Some(_), Some(_)) => Err(Failure::of_misuse(rt.alloc(), TWO_ORDERS)),
-            (Some(state), None) => {
-                let meter = Meter::new(rt, options.memory)?;
-                Ok(Order::Shuffled(Shuffle(state), meter))
-            }
-            (None, Some(name)) => {
-                let meter = Meter::new(rt, options.memory)?;
-                Ok(Order::Replayed(Replay::new(rt, name)?, meter))
-            }
+            (Some(state), None) => match Meter::new(rt, options.memory) {
+                Ok(meter) => Ok(Order::Shuffled(Shuffle(state), meter)),
+                Err(failure) => Err(failure),
+            },
+            (None, Some(name)) => match Meter::new(rt, options.memory) {
+                Ok(meter) => Order::replaying(rt, name, meter),
+                Err(failure) => Err(failure),
+            },
             (None, None) => Ok(Order::Asked(InOrder)),
+        }
+    }
+
+    /// The order of the recorded session of this name.
+    fn replaying<'a, R: System>(rt: &R, name: &'a str, meter: Meter) -> Result<Order, Failure<'a>> {
+        match Replay::new(rt, name) {
+            Ok(replay) => Ok(Order::Replayed(replay, meter)),
+            Err(failure) => {
+                drop(meter);
+                Err(failure)
+            }
         }
     }
 

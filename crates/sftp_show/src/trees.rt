@@ -89,15 +89,14 @@ fn put_head<O: Write>(file: &TreeFile, output: &mut O) -> io::Result<()> {
     let gid = file.gid;
     let limits = Limits(file.opening(), file.limits);
     let entries = file.rows.as_slice().len();
-    writeln!(
-        output,
-        "home {home} uid {uid} gid {gid}{limits} entries {entries}"
-    )?;
     let root = Owned(file.root);
     let times = file.times.get(0);
     let kind = letter_with(times, 'D', 'd');
     let times = Timed(times);
-    writeln!(output, "0 {kind} \"/\" {root}{times}")
+    writeln!(
+        output,
+        "home {home} uid {uid} gid {gid}{limits} entries {entries}\n0 {kind} \"/\" {root}{times}"
+    )
 }
 
 fn put_row<O: Write>(number: u64, row: &Row, times: Times, output: &mut O) -> io::Result<()> {

@@ -4,23 +4,12 @@
 
 ghost use Rattle.std.specs.Prelude.{◌≤◌};
 
-mod cut_sessions;
-mod explaining;
-mod going_on;
-mod inferences;
-mod inferred_lines;
-mod inferring;
-mod newcomers;
-mod readings;
-mod refusals;
 mod subcommands;
-mod totals;
-mod verdict_objects;
 
 use sftp_commands::{Faulty, ReadFiles};
 use sftp_faults::Spot;
 pub use sftp_files::System;
-use sftp_files::{DiffForm, Ending, Failure, ImportOptions, ServeOptions, report, write_flushed};
+use sftp_files::{Ending, Failure, ServeOptions, report, write_flushed};
 use sftp_options::{Request, parse};
 use sftp_progress::Console;
 use sftp_serving::Unserved;
@@ -97,11 +86,15 @@ fn perform<'a, R: System + Clock, I: Read, O: Write, E: Write + IsTerminal>(
     output: &mut O,
     errors: &mut E,
 ) -> Result<Ending, Failure<'a>> {
-    let request = parse(rt.alloc(), version, words)?;
-    let ending = perform_request(rt, &request, input, output, errors);
-    let explained = explained(rt, &request, ending, output, errors);
-    drop(request);
-    explained
+    match parse(rt.alloc(), version, words) {
+        Ok(request) => {
+            let ending = perform_request(rt, &request, input, output, errors);
+            let explained = explained(rt, &request, ending, output, errors);
+            drop(request);
+            explained
+        }
+        Err(failure) => Err(failure),
+    }
 }
 
 /// The outcome of a request. If a file is malformed, `errors` now says so, with its name and what else is known of it.
@@ -168,6 +161,7 @@ fn spot_of_request<R: Files + AllocGlobal>(
     }
 }
 
+/// Does what is asked for. While it reads or writes what may be long, standard error says how far it is.
 fn perform_request<'a, R: System + Clock, I: Read, O: Write, E: Write + IsTerminal>(
     rt: &R,
     request: &Request<'a>,
@@ -177,8 +171,8 @@ fn perform_request<'a, R: System + Clock, I: Read, O: Write, E: Write + IsTermin
 ) -> Result<Ending, Failure<'a>> {
     match request {
         Request::Serve(options, style) => serve(rt, options, *style, input, output, errors),
-        Request::Audit(files) => inferring::audit(rt, files, output, errors),
-        Request::Infer(options) => inferring::infer(rt, options, output, errors),
+        Request::Audit(files) => subcommands::audit(rt, files, output, errors),
+        Request::Infer(options) => sftp_inferring::infer(rt, options, output, errors),
         Request::Blank { file, keeping } => subcommands::blank(rt, file, *keeping),
         Request::Raise {
             tree,
@@ -194,63 +188,26 @@ fn perform_request<'a, R: System + Clock, I: Read, O: Write, E: Write + IsTermin
             memory,
             form,
             says_progress,
-        } => diff(
-            rt,
-            (old, new),
-            *memory,
-            *form,
-            *says_progress,
-            output,
-            errors,
-        ),
+        } => {
+            let mut console = console(errors, *says_progress);
+            sftp_commands::diff(rt, (old, new), *memory, *form, output, &mut console)
+        }
         Request::Import {
             options,
             says_progress,
-        } => import(rt, options, *says_progress, input, errors),
+        } => {
+            let mut console = console(errors, *says_progress);
+            sftp_commands::import(rt, options, input, &mut console)
+        }
         Request::Export {
             file,
             says_progress,
-        } => export(rt, file, *says_progress, output, errors),
+        } => {
+            let mut console = console(errors, *says_progress);
+            sftp_commands::export(rt, file, output, &mut console)
+        }
         Request::Help(text) => subcommands::help(text.as_str(), output),
     }
-}
-
-/// Shows how two trees differ, while standard error says how far that is.
-fn diff<'a, R: System + Clock, O: Write, E: Write + IsTerminal>(
-    rt: &R,
-    names: (&'a str, &'a str),
-    memory: Option<u64>,
-    form: DiffForm,
-    says_progress: bool,
-    output: &mut O,
-    errors: &mut E,
-) -> Result<Ending, Failure<'a>> {
-    let mut console = console(errors, says_progress);
-    sftp_commands::diff(rt, names, memory, form, output, &mut console)
-}
-
-/// Makes a tree file from an archive, while standard error says how far that is.
-fn import<'a, R: System + Clock, I: Read, E: Write + IsTerminal>(
-    rt: &R,
-    options: &ImportOptions<'a>,
-    says_progress: bool,
-    input: &mut I,
-    errors: &mut E,
-) -> Result<Ending, Failure<'a>> {
-    let mut console = console(errors, says_progress);
-    sftp_commands::import(rt, options, input, &mut console)
-}
-
-/// Makes an archive from a tree file, while standard error says how far that is.
-fn export<'a, R: System + Clock, O: Write, E: Write + IsTerminal>(
-    rt: &R,
-    file: &'a str,
-    says_progress: bool,
-    output: &mut O,
-    errors: &mut E,
-) -> Result<Ending, Failure<'a>> {
-    let mut console = console(errors, says_progress);
-    sftp_commands::export(rt, file, output, &mut console)
 }
 
 /// Standard error, and whether the run says there how far it is also where that is no terminal.

@@ -29,7 +29,7 @@ pub fn explain_reply<T: HandleTable, O: Write>(
     if causes.has_any() {
         explain_causes(causes, output)
     } else {
-        writeln!(output, "causes: none")?;
+        put_line("causes: none", output)?;
         put_allowed(alloc, session, ask, answer, output)
     }
 }
@@ -42,9 +42,18 @@ pub fn explain_reply<T: HandleTable, O: Write>(
 pub fn explain_causes<O: Write>(causes: Causes, output: &mut O) -> Result<(), ExplainError> {
     let list = CauseList(causes);
     let codes = AllowedCodes(causes);
-    writeln!(output, "causes: {list}")?;
-    writeln!(output, "expected: STATUS with code {codes}")?;
-    Ok(())
+    put_line(
+        format_args!("causes: {list}\nexpected: STATUS with code {codes}"),
+        output,
+    )
+}
+
+/// Writes a text, and a line feed.
+fn put_line<D: fmt::Display + Drop, O: Write>(text: D, output: &mut O) -> Result<(), ExplainError> {
+    match writeln!(output, "{text}") {
+        Ok(()) => Ok(()),
+        Err(error) => Err(ExplainError::from(error)),
+    }
 }
 
 /// Writes what answer the session allows to a request that no cause refuses, and how the given one differs.
@@ -57,8 +66,7 @@ fn put_allowed<T: HandleTable, O: Write>(
 ) -> Result<(), ExplainError> {
     match ask {
         Ask::Open { .. } | Ask::Opendir { .. } => {
-            writeln!(output, "expected: HANDLE with a handle that is not open")?;
-            Ok(())
+            put_line("expected: HANDLE with a handle that is not open", output)
         }
         Ask::Readdir { handle } => put_listing(alloc, session, handle.as_slice(), answer, output),
         other => put_exact(session, other, answer, output),
@@ -79,10 +87,7 @@ fn put_exact<T: HandleTable, O: Write>(
             put
         }
         Some(Err(_)) => Err(ExplainError::NoMemory),
-        None => {
-            writeln!(output, "expected: STATUS with code 0 (OK)")?;
-            Ok(())
-        }
+        None => put_line("expected: STATUS with code 0 (OK)", output),
     }
 }
 
@@ -104,12 +109,12 @@ fn put_allowed_answer<O: Write>(
 ) -> Result<(), ExplainError> {
     let text = AnswerText(expected);
     match (ask, expected) {
-        (Ask::Read { offset, .. }, Answer::Data(_)) => {
-            writeln!(output, "expected: {text} from offset {offset}")?;
-        }
-        _ => writeln!(output, "expected: {text}")?,
+        (Ask::Read { offset, .. }, Answer::Data(_)) => put_line(
+            format_args!("expected: {text} from offset {offset}"),
+            output,
+        ),
+        _ => put_line(format_args!("expected: {text}"), output),
     }
-    Ok(())
 }
 
 /// Writes the answer that was given, and the first byte in which it differs.
@@ -122,11 +127,10 @@ fn put_found<O: Write>(
     match (expected, answer) {
         (Answer::Data(wanted), Answer::Data(bytes)) => {
             let difference = first_difference(bytes.as_slice(), wanted.as_slice());
-            writeln!(output, "found: {given}; {difference}")?;
+            put_line(format_args!("found: {given}; {difference}"), output)
         }
-        _ => writeln!(output, "found: {given}")?,
+        _ => put_line(format_args!("found: {given}"), output),
     }
-    Ok(())
 }
 
 /// Writes the remaining entries of a handle's listing, and the first name of the answer that is wrong.
@@ -153,8 +157,7 @@ fn put_left<T: HandleTable, O: Write>(
 ) -> Result<(), ExplainError> {
     let count = left.len();
     if count == 0 {
-        writeln!(output, "expected: STATUS with code 1 (EOF)")?;
-        return Ok(());
+        return put_line("expected: STATUS with code 1 (EOF)", output);
     }
     put_names_left(session, handle, count, output)?;
     match answer {
@@ -186,8 +189,7 @@ fn put_first_names<O: Write>(
     output: &mut O,
 ) -> Result<(), ExplainError> {
     let names = NamesLeft { names, count };
-    writeln!(output, "expected: {names}")?;
-    Ok(())
+    put_line(format_args!("expected: {names}"), output)
 }
 
 /// The first of the remaining entries of a listing, and how many all are.
@@ -214,8 +216,7 @@ fn put_wrong_name<O: Write>(
     output: &mut O,
 ) -> Result<(), ExplainError> {
     match first_wrong_name(alloc, left, names.as_slice())? {
-        Some(difference) => writeln!(output, "found: {difference}")?,
-        None => writeln!(output, "found: NAME with no names")?,
+        Some(difference) => put_line(format_args!("found: {difference}"), output),
+        None => put_line("found: NAME with no names", output),
     }
-    Ok(())
 }

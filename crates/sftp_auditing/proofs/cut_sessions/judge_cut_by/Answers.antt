@@ -1,0 +1,13 @@
+-- The reader has read nothing yet, so the audit speaks of all bytes of the transcript.
+use Rattle.std.proofs.Common.{ap}
+use Rattle.sftp_verdicts.proofs.Fresh.{is_new}
+use Rattle.sftp_auditing.proofs.AuditLaws.{audited_cut}
+use Rattle.sftp_auditing.proofs.cut_sessions.judge_cut_by.Goals as goal
+
+pub returns-in-Ok : goal.returns-in-Ok
+returns-in-Ok g c = λ tree is.
+    let known = g.F.Read.remaining c.args.transcript in
+    audited_cut g.J.Judges.allowed (g.J.Judges.begun c.args.by) g.J.Judges.closed c.args.start tree is known
+    c.in-Ok.records (is_new known _ _ _ c.in-Ok.records (ap g.F.Read.remaining c.new.ensures.inner) c.in-Ok.ensures.ok)
+    c.audit_cut_tree_by-audited.result c.audit_cut_tree_by-audited.ensures.accepted
+    c.audit_cut_tree_by-audited.ensures.refused c.audit_cut_tree_by-audited.ensures.first

@@ -1,0 +1,473 @@
+//! The subcommand `audit`: the session of a transcript, judged with the tree of a file.
+ghost use Rattle.std.specs.Prelude.{◌≡◌, ◌≤◌, ℕ, List, None, Some, IfOk, IfErr};
+ghost use Rattle.sftp_tree.specs.Picture.{IsStart};
+ghost use Rattle.sftp_audit.specs.Audit.{AccountsBy, IsFirstFaultBy};
+ghost use Rattle.sftp_files.specs.declared.messages.Ending.TheVariants as endings;
+ghost use Rattle.sftp_profile.specs.declared.profiles.Profile.{Profile as profile};
+ghost use Rattle.sftp_files.specs.Failures.{IsUnwritten};
+ghost use Rattle.sftp_files.specs.Failures.{failure_status};
+ghost use Rattle.sftp_verdicts.specs.Verdicts.{IsAuditStatus};
+ghost use Rattle.sftp_auditing.specs.Audits.{IsOutcome};
+ghost use Rattle.sftp_auditing.specs.Audits.{IsAudit, IsStrictAudit, IsAuditUnder, HasEnd, IsReportOf, IsReportOfError};
+ghost use Rattle.sftp_auditing.specs.Audits.{IsStrictVerdict, IsVerdictUnder, IsVerdictAsked};
+
+use crate::cut_sessions::{Counts, judge_cut_and_report, say_accepted};
+use crate::explaining::explain;
+use crate::going_on::report_findings;
+use crate::verdict_objects::print_refused;
+use sftp_audit::{AuditError, Ended, Refusal, audit_tree_by};
+use sftp_commands::{Kept, LeftOut, is_read_again, read_tree_in_view, write_tree};
+use sftp_files::{BoundedRecords, Ending, Failure, Meter, System, open, print, read_at_most};
+use sftp_handles::{GivenTable, Session};
+use sftp_judges::Judges;
+use sftp_profile::{Judge, Profile};
+use sftp_progress::{Progress, Task, Tracked};
+use sftp_transcript::{Reader, Tally};
+use sftp_tree::Tree;
+use sftp_treefile::TreeError;
+use sftp_verdicts::{AuditOptions, umask_of, with_umask};
+use std::alloc::Global;
+use std::fs::Files;
+use std::io::{IsTerminal, Read, Write};
+use std::time::Clock;
+
+/// Why `--most` cannot stand alone.
+const LACKS_KEEP_GOING: &str =
+    "the following required arguments were not provided:\n  --keep-going";
+
+/// Audits a session. The tree file is read and the transcript is opened before either is judged. The transcript is read
+/// as a stream.
+pub fn audit<'a, R: System + Clock, O: Write, E: Write + IsTerminal>(
+    rt: &R,
+    files: &AuditOptions<'a>,
+    output: &mut O,
+    errors: &mut E,
+) -> Result<Ending, Failure<'a>>
+    ensures { IsAuditStatus result }
+{
+    if files.most.is_some() && !files.keeps_going {
+        return Err(Failure::of_misuse(rt.alloc(), LACKS_KEEP_GOING));
+    }
+    let umask = umask_of(rt.alloc(), files.umask)?;
+    let mut options = *files;
+    options.profile = with_umask(files.profile, umask);
+    audit_by(rt, &options, output, errors)
+}
+
+/// Audits a session by a profile with its umask.
+fn audit_by<'a, R: System + Clock, O: Write, E: Write + IsTerminal>(
+    rt: &R,
+    files: &AuditOptions<'a>,
+    output: &mut O,
+    errors: &mut E,
+) -> Result<Ending, Failure<'a>>
+    ensures { IsAuditStatus result }
+{
+    let goes_back = files.explains || files.keeps_going;
+    if goes_back && !is_read_again(rt, files.tree) {
+        return audit_keeping(rt, files, output, errors);
+    }
+    let kept = goes_back.then_some(Kept::File(files.tree));
+    let start = read_tree_in_view(rt, files.tree, files.memory, files.says_progress, errors)?;
+    audit_from(rt, files, start, kept, output, errors)
+}
+
+/// Audits a session whose tree file cannot be read twice, and keeps its bytes: what explains a refusal, and what goes
+/// on behind it, starts from the tree again.
+fn audit_keeping<'a, R: System + Clock, O: Write, E: Write + IsTerminal>(
+    rt: &R,
+    files: &AuditOptions<'a>,
+    output: &mut O,
+    errors: &mut E,
+) -> Result<Ending, Failure<'a>>
+    ensures { IsAuditStatus result }
+{
+    let bytes = read_at_most(rt, files.tree, files.memory)?;
+    let start = Tree::read(rt.alloc(), bytes.as_slice());
+    let ending = audit_from(
+        rt,
+        files,
+        start,
+        Some(Kept::Bytes(bytes.as_slice())),
+        output,
+        errors,
+    );
+    drop(bytes);
+    ending
+}
+
+/// Audits a session that starts from this tree, unless its file has a fault. From here on `kept` says
+/// where the tree can be had again if an explanation is asked for, or what else is wrong.
+fn audit_from<'a, R: System + Clock, O: Write, E: Write + IsTerminal>(
+    rt: &R,
+    files: &AuditOptions<'a>,
+    start: Result<Tree, TreeError>,
+    kept: Option<Kept<'_>>,
+    output: &mut O,
+    errors: &mut E,
+) -> Result<Ending, Failure<'a>>
+    ensures { IsAuditStatus result }
+{
+    match open(rt, files.transcript) {
+        Ok(transcript) => match start {
+            Ok(start) => audit_transcript(rt, files, start, kept, transcript, output, errors),
+            Err(error) => {
+                drop(transcript);
+                Err(Failure::from(error))
+            }
+        },
+        Err(failure) => {
+            drop(start);
+            Err(failure)
+        }
+    }
+}
+
+/// Audits the session of this transcript, within the limit on memory if there is one. Without an option of a profile
+/// the session is judged strictly, and without `--cut` it has to be complete.
+fn audit_transcript<'a, F: Read + Drop, R: System + Clock, O: Write, E: Write + IsTerminal>(
+    rt: &R,
+    files: &AuditOptions<'a>,
+    start: Tree,
+    kept: Option<Kept<'_>>,
+    transcript: F,
+    output: &mut O,
+    errors: &mut E,
+) -> Result<Ending, Failure<'a>>
+    // The verdict on each tree file of this tree.
+    ensures verdict { (tree : List ℕ) → IsStart start tree →
+        IfOk result (IsVerdictAsked files.now.profile files.now.cuts tree (F.remaining transcript)) }
+    ensures status { IsAuditStatus result }
+{
+    match files.memory {
+        Some(_) => audit_within(rt, files, start, kept, transcript, output, errors),
+        None => judge_as_asked(rt, files, start, kept, transcript, output, errors),
+    }
+}
+
+/// Audits the session of this transcript within the limit on memory.
+fn audit_within<'a, F: Read + Drop, R: System + Clock, O: Write, E: Write + IsTerminal>(
+    rt: &R,
+    files: &AuditOptions<'a>,
+    start: Tree,
+    kept: Option<Kept<'_>>,
+    transcript: F,
+    output: &mut O,
+    errors: &mut E,
+) -> Result<Ending, Failure<'a>>
+    // The verdict on each tree file of this tree.
+    ensures verdict { (tree : List ℕ) → IsStart start tree →
+        IfOk result (IsVerdictAsked files.now.profile files.now.cuts tree (F.remaining transcript)) }
+    ensures status { IsAuditStatus result }
+{
+    let mut meter = Meter::new(rt, files.memory)?;
+    let bounded = BoundedRecords::new(rt.alloc(), transcript, &mut meter)?;
+    match judge_as_asked(rt, files, start, kept, bounded, output, errors) {
+        Err(_) if meter.is_over() => Err(Failure::OverLimit(files.transcript)),
+        ending => ending,
+    }
+}
+
+/// Audits the session of this transcript, as one that may have been cut if the options say so, and says what came of
+/// it.
+fn judge_as_asked<'a, F: Read + Drop, R: System + Clock, O: Write, E: Write + IsTerminal>(
+    rt: &R,
+    files: &AuditOptions<'a>,
+    start: Tree,
+    kept: Option<Kept<'_>>,
+    transcript: F,
+    output: &mut O,
+    errors: &mut E,
+) -> Result<Ending, Failure<'a>>
+    // The verdict on each tree file of this tree.
+    ensures verdict { (tree : List ℕ) → IsStart start tree →
+        IfOk result (IsVerdictAsked files.now.profile files.now.cuts tree (F.remaining transcript)) }
+    ensures status { IsAuditStatus result }
+{
+    if files.cuts {
+        judge_cut_and_report(rt, files, start, kept, transcript, output, errors)
+    } else {
+        judge_and_report(rt, files, start, kept, transcript, output, errors)
+    }
+}
+
+/// Audits the session of this transcript, which has to be complete, and says what came of it.
+fn judge_and_report<'a, F: Read + Drop, R: System + Clock, O: Write, E: Write + IsTerminal>(
+    rt: &R,
+    files: &AuditOptions<'a>,
+    start: Tree,
+    kept: Option<Kept<'_>>,
+    transcript: F,
+    output: &mut O,
+    errors: &mut E,
+) -> Result<Ending, Failure<'a>>
+    // The verdict on each tree file of this tree.
+    ensures strictly { (tree : List ℕ) → IsStart start tree → files.now.profile ≡ None →
+        IfOk result (IsStrictVerdict tree (F.remaining transcript)) }
+    ensures under { (tree : List ℕ) → IsStart start tree → (by : profile) → files.now.profile ≡ Some by →
+        IfOk result (IsVerdictUnder by tree (F.remaining transcript)) }
+    ensures status { IsAuditStatus result }
+{
+    let mut follows = true;
+    let judged = judge_in_view(rt, files, start, transcript, &mut follows, errors);
+    let ending = report(rt, files, kept, &judged, follows, output, errors);
+    drop(judged);
+    ending
+}
+
+/// Says what came of the audit of a session of these files.
+fn report<'a, R: System, O: Write, E: Write>(
+    rt: &R,
+    files: &AuditOptions<'a>,
+    kept: Option<Kept<'_>>,
+    judged: &Result<Ended, AuditError>,
+    follows: bool,
+    output: &mut O,
+    errors: &mut E,
+) -> Result<Ending, Failure<'a>>
+    ensures of_audit { IsReportOf judged.now result }
+    ensures status { IsAuditStatus result }
+{
+    match judged {
+        Ok(ended) => accept(rt, ended, files, output),
+        Err(error) => report_error(rt, files, kept, *error, follows, output, errors),
+    }
+}
+
+/// Why a session is refused, and whether its profile follows it up to there.
+#[derive(Clone, Copy)]
+pub(crate) struct Finding {
+    pub(crate) refusal: Refusal,
+    pub(crate) follows: bool,
+}
+
+/// Says why a session of these files is not accepted.
+pub(crate) fn report_error<'a, R: System, O: Write, E: Write>(
+    rt: &R,
+    files: &AuditOptions<'a>,
+    kept: Option<Kept<'_>>,
+    error: AuditError,
+    follows: bool,
+    output: &mut O,
+    errors: &mut E,
+) -> Result<Ending, Failure<'a>>
+    ensures of_error { IfOk result (IsReportOfError error) }
+    ensures status { IsAuditStatus result }
+{
+    match refusal_or_failure(error, files.transcript) {
+        Ok(refusal) => report_refusal(rt, files, kept, refusal, follows, output, errors),
+        Err(failure) => Err(failure),
+    }
+}
+
+/// Says why a session of these files is refused, and what else is asked for.
+fn report_refusal<'a, R: System, O: Write, E: Write>(
+    rt: &R,
+    files: &AuditOptions<'a>,
+    kept: Option<Kept<'_>>,
+    refusal: Refusal,
+    follows: bool,
+    output: &mut O,
+    errors: &mut E,
+) -> Result<Ending, Failure<'a>>
+    ensures ok { IfOk result (λ ending. ending ≡ endings.Refused) }
+    ensures err { IfErr result IsUnwritten }
+{
+    let finding = Finding { refusal, follows };
+    match kept {
+        Some(tree) if files.keeps_going => {
+            report_findings(rt, files, tree, finding, output, errors)
+        }
+        Some(tree) => {
+            let mut left_out = LeftOut::new(rt.alloc());
+            let ending = report_finding(rt, files, tree, &mut left_out, finding, output, errors);
+            drop(left_out);
+            ending
+        }
+        None => refuse(files, finding, output),
+    }
+}
+
+/// Says why a session of these files is refused where this is left out of it, and explains it if that is asked for.
+pub(crate) fn report_finding<'a, R: Files + AllocGlobal, O: Write, E: Write>(
+    rt: &R,
+    files: &AuditOptions<'a>,
+    tree: Kept<'_>,
+    left_out: &mut LeftOut,
+    finding: Finding,
+    output: &mut O,
+    errors: &mut E,
+) -> Result<Ending, Failure<'a>>
+    ensures ok { IfOk result (λ ending. ending ≡ endings.Refused) }
+    ensures err { IfErr result IsUnwritten }
+{
+    if files.explains && files.is_json {
+        return refuse_as_object(rt, files, tree, left_out, finding, output);
+    }
+    let ending = refuse(files, finding, output);
+    if files.explains && ending.is_ok() {
+        explain(rt, files, tree, left_out, finding.refusal, errors);
+    }
+    ending
+}
+
+/// Says why a session of these files is refused as a JSON object, with the explanation in it.
+fn refuse_as_object<'a, R: Files + AllocGlobal, O: Write>(
+    rt: &R,
+    files: &AuditOptions<'a>,
+    tree: Kept<'_>,
+    left_out: &mut LeftOut,
+    finding: Finding,
+    output: &mut O,
+) -> Result<Ending, Failure<'a>>
+    ensures ok { IfOk result (λ ending. ending ≡ endings.Refused) }
+    ensures err { IfErr result IsUnwritten }
+{
+    let mut lines = Vec::new(rt.alloc());
+    explain(rt, files, tree, left_out, finding.refusal, &mut lines);
+    let ending = print_refused(
+        finding.refusal,
+        finding.follows,
+        Some(lines.as_slice()),
+        output,
+    );
+    drop(lines);
+    ending
+}
+
+/// Audits the session of this transcript, while standard error says how much of it is read.
+fn judge_in_view<F: Read + Drop, R: System + Clock, E: Write + IsTerminal>(
+    rt: &R,
+    files: &AuditOptions<'_>,
+    start: Tree,
+    transcript: F,
+    follows: &mut bool,
+    errors: &mut E,
+) -> Result<Ended, AuditError>
+    ensures strictly { (tree : List ℕ) → IsStart start tree → files.now.profile ≡ None →
+        IsStrictAudit tree (F.remaining transcript) result }
+    ensures under { (tree : List ℕ) → IsStart start tree → (by : profile) → files.now.profile ≡ Some by →
+        IsAuditUnder by tree (F.remaining transcript) result }
+{
+    let is_asked = files.says_progress;
+    let file = Some(files.transcript);
+    let mut progress = Progress::new(rt, errors, is_asked, Task::ReadTranscript, file);
+    let tracked = Tracked::new(transcript, &mut progress);
+    let judged = judge(rt.alloc(), files.profile, start, tracked, follows);
+    progress.end();
+    judged
+}
+
+/// Audits the session of a transcript that is read as a stream: strictly, or under a profile. `follows` is set to
+/// whether the profile follows it up to where it is refused; strictly each session is followed.
+fn judge<F: Read + Drop>(
+    alloc: Global,
+    by: Option<Profile>,
+    start: Tree,
+    transcript: F,
+    follows: &mut bool,
+) -> Result<Ended, AuditError>
+    ensures strictly { (tree : List ℕ) → IsStart start tree → by ≡ None →
+        IsStrictAudit tree (F.remaining transcript) result }
+    ensures under { (tree : List ℕ) → IsStart start tree → (it : profile) → by ≡ Some it →
+        IsAuditUnder it tree (F.remaining transcript) result }
+{
+    match by {
+        None => judge_by::<Session<GivenTable>, F>(alloc, (), start, transcript, follows),
+        Some(profile) => judge_by::<Judge, F>(alloc, profile, start, transcript, follows),
+    }
+}
+
+/// Audits such a session by a judge that is made by `by`.
+fn judge_by<J: Judges, F: Read + Drop>(
+    alloc: Global,
+    by: J::By,
+    start: Tree,
+    transcript: F,
+    follows: &mut bool,
+) -> Result<Ended, AuditError>
+    ensures { (tree : List ℕ) → IsStart start tree →
+        IsAudit (AccountsBy J.allowed (J.begun by) J.closed) (IsFirstFaultBy J.allowed (J.begun by)) HasEnd
+        tree (F.remaining transcript) result }
+{
+    match Reader::new(alloc, Tally::new(transcript)) {
+        Ok(mut records) => {
+            let audited = audit_tree_by::<J, Tally<F>>(by, start, &mut records, follows);
+            drop(records);
+            audited
+        }
+        Err(error) => {
+            drop(start);
+            Err(AuditError::from(error))
+        }
+    }
+}
+
+/// Writes the final tree, if a file is named for it, and then says that the session is accepted.
+fn accept<'a, R: System, O: Write>(
+    rt: &R,
+    ended: &Ended,
+    files: &AuditOptions<'a>,
+    output: &mut O,
+) -> Result<Ending, Failure<'a>>
+    ensures ok { IfOk result (λ ending. ending ≡ endings.Done) }
+    ensures err { IfErr result IsUnwritten }
+{
+    keep_end(rt, files, &ended.tree)?;
+    let counts = Counts {
+        judged: ended.requests,
+        unanswered: 0,
+        unjudged: 0,
+    };
+    say_accepted(counts, None, files, output)
+}
+
+/// Writes the final tree of an accepted session, if a file is named for it.
+pub(crate) fn keep_end<'a, R: System>(
+    rt: &R,
+    files: &AuditOptions<'a>,
+    tree: &Tree,
+) -> Result<(), Failure<'a>>
+    ensures { IfErr result IsUnwritten }
+{
+    match files.out {
+        Some(name) => write_tree(rt, name, files.keeping, tree),
+        None => Ok(()),
+    }
+}
+
+/// Says why the session is refused, as a line or as a JSON object: `NotModelled` where the profile does not follow a
+/// request.
+fn refuse<'a, O: Write>(
+    files: &AuditOptions<'a>,
+    finding: Finding,
+    output: &mut O,
+) -> Result<Ending, Failure<'a>>
+    ensures ok { IfOk result (λ ending. ending ≡ endings.Refused) }
+    ensures err { IfErr result IsUnwritten }
+{
+    if files.is_json {
+        return print_refused(finding.refusal, finding.follows, None, output);
+    }
+    match finding.refusal {
+        Refusal::NotAllowed { record } if !finding.follows => print(
+            output,
+            format_args!("refused record {record}: NotModelled\n"),
+            Ending::Refused,
+        ),
+        refusal => print(output, format_args!("refused {refusal}\n"), Ending::Refused),
+    }
+}
+
+/// The refusal of a session by the error of its audit, or the failure of the run. The transcript has this name.
+fn refusal_or_failure<'a>(error: AuditError, transcript: &'a str) -> Result<Refusal, Failure<'a>>
+    ensures outcome { IsOutcome transcript.now error result }
+    ensures status { IfErr result (λ failure. 2 ≤ failure_status failure) }
+{
+    match error {
+        AuditError::Refused(Refusal::NoMemory) | AuditError::NoMemory => Err(Failure::OutOfMemory),
+        AuditError::Refused(refusal) => Ok(refusal),
+        AuditError::Tree(error) => Err(Failure::from(error)),
+        AuditError::Transcript(error) => Err(Failure::of_transcript(error, transcript)),
+    }
+}

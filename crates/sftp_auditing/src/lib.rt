@@ -1,0 +1,13 @@
+//! The subcommand `audit`: sessions judged with the tree of a file, why they are refused, and all that is wrong.
+#![tactic(auto)]
+
+mod auditing;
+mod cut_sessions;
+mod explaining;
+mod going_on;
+mod newcomers;
+mod readings;
+mod totals;
+mod verdict_objects;
+
+pub use auditing::audit;

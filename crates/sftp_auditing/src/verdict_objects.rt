@@ -1,0 +1,96 @@
+//! `--json`: what an audit says, as JSON objects.
+ghost use Rattle.std.specs.Prelude.{◌≡◌, IfOk, IfErr};
+ghost use Rattle.sftp_files.specs.declared.messages.Ending.TheVariants as endings;
+ghost use Rattle.sftp_files.specs.Failures.{IsUnwritten};
+
+use sftp_audit::Refusal;
+use sftp_files::{Ending, Failure};
+use sftp_json::JsonLines;
+use sftp_verdicts::{object_of, parts_of_line, print_object, whole_lines};
+use std::io::Write;
+
+/// Prints the object of an accepted session, as the last step of a run. `cut` has, of a session that may have been cut,
+/// how many requests have no reply, and how many others were not judged.
+pub(crate) fn print_accepted<'a, O: Write>(
+    requests: u64,
+    cut: Option<(u64, u64)>,
+    output: &mut O,
+) -> Result<Ending, Failure<'a>>
+    ensures ok { IfOk result (λ ending. ending ≡ endings.Done) }
+    ensures err { IfErr result IsUnwritten }
+{
+    let mut json = object_of("accepted", output);
+    json.number("requests", requests);
+    if let Some((unanswered, unjudged)) = cut {
+        json.number("unanswered", unanswered);
+        json.number("unjudged", unjudged);
+    }
+    print_object(json, Ending::Done)
+}
+
+/// Prints the object of a refused session, as the last step of a run. `explanation` has the lines of one, if it was
+/// asked for; where the profile does not follow a request, the kind is `NotModelled`.
+pub(crate) fn print_refused<'a, O: Write>(
+    refusal: Refusal,
+    follows: bool,
+    explanation: Option<&[u8]>,
+    output: &mut O,
+) -> Result<Ending, Failure<'a>>
+    ensures ok { IfOk result (λ ending. ending ≡ endings.Refused) }
+    ensures err { IfErr result IsUnwritten }
+{
+    let (record, kind) = parts_of(refusal, follows);
+    let mut json = object_of("refused", output);
+    json.number("record", record);
+    json.word("kind", kind);
+    if let Some(lines) = explanation {
+        put_explanation(lines, &mut json);
+    }
+    print_object(json, Ending::Refused)
+}
+
+/// The record that a refusal names, and its kind.
+fn parts_of(refusal: Refusal, follows: bool) -> (u64, &'static str) {
+    match refusal {
+        Refusal::UnknownReply { record } => (record, "UnknownReply"),
+        Refusal::IdInUse { record } => (record, "IdInUse"),
+        Refusal::Window { record } => (record, "Window"),
+        Refusal::NotAllowed { record } if !follows => (record, "NotModelled"),
+        Refusal::NotAllowed { record } => (record, "NotAllowed"),
+        Refusal::Unanswered { record } => (record, "Unanswered"),
+        Refusal::NoMemory => (0, "NoMemory"),
+    }
+}
+
+/// Writes the whole lines of an explanation as a list: an object for each.
+fn put_explanation<O: Write>(lines: &[u8], json: &mut JsonLines<'_, O>) {
+    json.open_list("explanation");
+    for line in whole_lines(lines).lines() {
+        put_line(line, json);
+    }
+    json.close_list();
+}
+
+/// Writes a line as an object: what stands before its colon, the number of the record that it shows, if it does, and
+/// what stands behind the colon.
+fn put_line<O: Write>(line: &str, json: &mut JsonLines<'_, O>) {
+    let (part, text) = parts_of_line(line);
+    json.open();
+    json.word("part", part);
+    if let Some(record) = shown_record(part, text) {
+        json.number("record", record);
+    }
+    json.word("text", text);
+    json.close();
+}
+
+/// The number of the record that a part of an explanation shows, which its text begins with.
+fn shown_record(part: &str, text: &str) -> Option<u64> {
+    match part {
+        "request" | "reply" | "answered" | "unanswered" => {
+            let (number, _) = text.split_once(' ')?;
+            number.parse::<u64>().ok()
+        }
+        _ => None,
+    }
+}

@@ -1,0 +1,329 @@
+//! The lines about an inferred tree: what it assumes, and which records contradict each other.
+ghost use Rattle.sftp_verdicts.specs.Verdicts.{IsAuditStatus};
+
+use sftp_audit::Refusal;
+use sftp_files::{Ending, Failure, print, write_flushed};
+use sftp_infer::{Candidate, Clash, Excess, Fact, Says, Search, Sort, What};
+use sftp_show::{Quoted, find_record, last_of_id, put_record};
+use sftp_transcript::{Memory, Reader};
+use sftp_wire::Side;
+use std::alloc::Global;
+use std::fmt;
+use std::io::Write;
+
+/// What a tree assumes beyond what replies tell.
+#[derive(Clone, Copy)]
+struct Assumption<'a>(&'a Fact);
+
+impl fmt::Display for Assumption<'_> {
+    fn fmt<W: fmt::Write>(&self, f: &mut fmt::Formatter<W>) -> fmt::Result {
+        put_fact(self.0, f)?;
+        put_number(self.0.told, f)
+    }
+}
+
+/// Writes what a tree assumes of a place.
+fn put_fact<W: fmt::Write>(fact: &Fact, f: &mut fmt::Formatter<W>) -> fmt::Result {
+    let place = Quoted(fact.place.as_slice());
+    let (before, behind) = match &fact.says {
+        Says::SameFile(other) => {
+            let other = Quoted(other.as_slice());
+            return write!(f, "{place} and {other} name one file");
+        }
+        Says::Link(target) => {
+            let target = Quoted(target.as_slice());
+            return write!(f, "{place} is a link to {target}");
+        }
+        Says::Size(size) => return write!(f, "{place} has {size} bytes at the start"),
+        Says::Home => ("relative paths begin at ", ""),
+        Says::Directory => ("", " is a directory"),
+        Says::File => ("", " is a file"),
+        Says::There => ("", " is there"),
+    };
+    write!(f, "{before}{place}{behind}")
+}
+
+/// Writes the number of the record that led to an assumption, if one did.
+fn put_number<W: fmt::Write>(number: u64, f: &mut fmt::Formatter<W>) -> fmt::Result {
+    if number == 0 {
+        return Ok(());
+    }
+    write!(f, " (record {number})")
+}
+
+/// Writes what a tree assumes beyond what replies tell, a line each.
+pub(crate) fn put_assumed<E: Write>(candidate: &Candidate<'_>, errors: &mut E) {
+    for fact in candidate.assumed.iter() {
+        let line = Assumption(fact);
+        let _ = write_flushed(errors, format_args!("assumed: {line}\n"));
+    }
+    if candidate.is_large {
+        let _ = write_flushed(
+            errors,
+            "assumed: the tree has higher limits than the usual ones\n",
+        );
+    }
+}
+
+/// Says that the records of a session do not pair off, with whatever tree.
+pub(crate) fn put_refusal<'a, O: Write>(
+    refusal: Refusal,
+    output: &mut O,
+) -> Result<Ending, Failure<'a>>
+    ensures { IsAuditStatus result }
+{
+    print(
+        output,
+        format_args!("no tree found: {refusal}\n"),
+        Ending::Refused,
+    )
+}
+
+/// Says how a session that was cut can be judged as far as it goes.
+pub(crate) fn put_way<E: Write>(refusal: Refusal, errors: &mut E) {
+    if let Refusal::Unanswered { record } = refusal {
+        let before = record.saturating_sub(1);
+        let _ = write_flushed(
+            errors,
+            format_args!(
+                "To judge what is before: sftpv3 show --full --data all FILE | head -n {before} | sftpv3 make BEFORE\n"
+            ),
+        );
+        let _ = write_flushed(
+            errors,
+            "then: sftpv3 infer --transcript BEFORE TREE && sftpv3 audit --cut --tree TREE --transcript FILE\n",
+        );
+    }
+}
+
+/// Says why the tree of what a session tells would be larger than it may.
+pub(crate) fn put_excess<E: Write>(excess: Excess, errors: &mut E) {
+    let _ = match excess {
+        Excess::Files(bytes) => write_flushed(
+            errors,
+            format_args!("no tree: the files of the session have {bytes} bytes in all\n"),
+        ),
+        Excess::File(bytes) => write_flushed(
+            errors,
+            format_args!(
+                "no tree: a file has {bytes} bytes, and that of a tree has 1099511627776 at most\n"
+            ),
+        ),
+        Excess::Paths(bytes) => write_flushed(
+            errors,
+            format_args!("no tree: the paths that replies tell of have {bytes} bytes in all\n"),
+        ),
+        Excess::Entries => write_flushed(
+            errors,
+            "no tree: replies tell of more entries than a tree may have\n",
+        ),
+    };
+}
+
+/// Says that the search did not try all that it had in mind.
+pub(crate) fn put_spent<E: Write>(errors: &mut E) {
+    let _ = write_flushed(
+        errors,
+        "the search ended early: more would take more passes, steps or memory than it may\n",
+    );
+}
+
+/// The word for a kind.
+fn word(sort: Sort) -> &'static str {
+    match sort {
+        Sort::Unknown => "something",
+        Sort::Directory => "a directory",
+        Sort::File => "a file",
+        Sort::Link => "a link",
+    }
+}
+
+/// What the first record of a contradiction told.
+#[derive(Clone, Copy)]
+struct Told<'a>(&'a Clash);
+
+impl fmt::Display for Told<'_> {
+    fn fmt<W: fmt::Write>(&self, f: &mut fmt::Formatter<W>) -> fmt::Result {
+        let place = Quoted(self.0.place.as_slice());
+        match self.0.what {
+            What::Size(size, _) => write!(f, "{place} has {size} bytes"),
+            What::Byte(offset, byte, _) => write!(f, "byte {offset} of {place} is 0x{byte:02x}"),
+            What::Owner((uid, gid), _) => write!(f, "{place} is owned by {uid},{gid}"),
+            What::Permissions(bits, _) => write!(f, "{place} has the permissions {bits:04o}"),
+            What::Target => put_target(self.0, f),
+            other => {
+                let (before, behind, sort) = told_words(other);
+                write!(f, "{before}{place}{behind}{sort}")
+            }
+        }
+    }
+}
+
+/// The words around the place where a record told nothing but of what kind something is, if anything.
+fn told_words(what: What) -> (&'static str, &'static str, &'static str) {
+    match what {
+        What::Gone => ("something is at ", "", ""),
+        What::Kind(sort, _) => ("", " is ", word(sort)),
+        What::Refused(Some(sort)) => ("", " is ", word(sort)),
+        What::Unlisted => ("", " is there", ""),
+        What::Entries => ("", " has entries", ""),
+        What::Place => ("the path leads to ", "", ""),
+        _ => ("nothing is at ", "", ""),
+    }
+}
+
+fn put_target<W: fmt::Write>(clash: &Clash, f: &mut fmt::Formatter<W>) -> fmt::Result {
+    let place = Quoted(clash.place.as_slice());
+    match &clash.texts {
+        Some((told, _)) => {
+            let told = Quoted(told.as_slice());
+            write!(f, "{place} is a link to {told}")
+        }
+        None => write!(f, "{place} is a link"),
+    }
+}
+
+/// Writes what the second record says of a target or a place, behind these words.
+fn put_text<W: fmt::Write>(words: &str, clash: &Clash, f: &mut fmt::Formatter<W>) -> fmt::Result {
+    match &clash.texts {
+        Some((_, found)) => {
+            let found = Quoted(found.as_slice());
+            write!(f, "{words} {found}")
+        }
+        None => write!(f, "{words} another place"),
+    }
+}
+
+/// What the second record of a contradiction says.
+#[derive(Clone, Copy)]
+struct Otherwise<'a>(&'a Clash);
+
+impl fmt::Display for Otherwise<'_> {
+    fn fmt<W: fmt::Write>(&self, f: &mut fmt::Formatter<W>) -> fmt::Result {
+        match self.0.what {
+            What::Size(_, size) => write!(f, "{size} bytes"),
+            What::Byte(_, _, byte) => write!(f, "0x{byte:02x}"),
+            What::Owner(_, (uid, gid)) => write!(f, "{uid},{gid}"),
+            What::Permissions(_, bits) => write!(f, "{bits:04o}"),
+            What::Target => put_text("it leads to", self.0, f),
+            What::Place => put_text("it leads to", self.0, f),
+            What::Refused(_) => f.write_str(unexplained(self.0.told)),
+            other => f.write_str(other_words(other)),
+        }
+    }
+}
+
+/// The words for a reply that no pass explains. Where an earlier record told something, it is a refusal.
+fn unexplained(told: u64) -> &'static str {
+    match told {
+        0 => "a reply that nothing explains",
+        _ => "a refusal for which that is no reason",
+    }
+}
+
+/// What the second record says that tells nothing but of what kind something is, if anything.
+fn other_words(what: What) -> &'static str {
+    match what {
+        What::There => "something is there",
+        What::Kind(_, sort) => word(sort),
+        What::Unlisted => "the listing ends without it",
+        What::Entries => "it was removed as an empty directory",
+        _ => "nothing is there",
+    }
+}
+
+/// Writes both records of the contradiction that came last, what each told, and how many passes were tried.
+pub(crate) fn put_clash<E: Write>(
+    alloc: Global,
+    session: &[u8],
+    search: &Search<'_>,
+    errors: &mut E,
+) {
+    if let Some(clash) = search.clash() {
+        if clash.told != 0 {
+            put_exchange(alloc, session, "told", clash.told, errors);
+            let told = Told(clash);
+            let _ = write_flushed(errors, format_args!("told: {told}\n"));
+        }
+        put_exchange(alloc, session, "found", clash.found, errors);
+        let otherwise = Otherwise(clash);
+        let _ = write_flushed(errors, format_args!("found: {otherwise}\n"));
+    }
+    let passes = search.passes();
+    let _ = write_flushed(
+        errors,
+        format_args!("tried: {passes} passes\nThis is no proof that there is no tree.\n"),
+    );
+    if let Some(clash) = search.clash() {
+        put_hint(clash, errors);
+    }
+}
+
+/// Says how to look closer.
+fn put_hint<E: Write>(clash: &Clash, errors: &mut E) {
+    let found = clash.found;
+    let first = match clash.told {
+        0 => found,
+        told => told.min(found),
+    };
+    let _ = write_flushed(
+        errors,
+        format_args!("To look closer: sftpv3 show --full --records {first}-{found} FILE\n"),
+    );
+}
+
+/// Writes the line of a record, if it can be found; before it that of the request that it answers.
+pub(crate) fn put_exchange<E: Write>(
+    alloc: Global,
+    session: &[u8],
+    label: &str,
+    number: u64,
+    errors: &mut E,
+) {
+    if let Some(asked) = request_of(alloc, session, number) {
+        put_line(alloc, session, "asked", asked, errors);
+    }
+    put_line(alloc, session, label, number, errors);
+}
+
+/// The number of the request that this record answers, if it is a reply and both can be found.
+fn request_of(alloc: Global, session: &[u8], number: u64) -> Option<u64> {
+    let (side, id) = head_of(alloc, session, number)?;
+    if side == Side::Client {
+        return None;
+    }
+    let mut reader = Reader::new(alloc, Memory::new(session)).ok()?;
+    let last = last_of_id(&mut reader, Side::Client, id, number);
+    drop(reader);
+    last.ok()?
+}
+
+/// Who sent a record, and its id, if it has one and can be found.
+fn head_of(alloc: Global, session: &[u8], number: u64) -> Option<(Side, u32)> {
+    let mut reader = Reader::new(alloc, Memory::new(session)).ok()?;
+    let found = find_record(&mut reader, number);
+    drop(reader);
+    match found {
+        Ok(Some(record)) => {
+            let (side, id) = (record.side, record.id());
+            drop(record);
+            Some((side, id?))
+        }
+        Ok(None) => None,
+        Err(_) => None,
+    }
+}
+
+/// Writes the line of a record, if it can be found.
+fn put_line<E: Write>(alloc: Global, session: &[u8], label: &str, number: u64, errors: &mut E) {
+    if number == 0 {
+        return;
+    }
+    if let Ok(mut reader) = Reader::new(alloc, Memory::new(session)) {
+        if let Ok(Some(found)) = find_record(&mut reader, number) {
+            let _ = put_record(label, &found, errors);
+            drop(found);
+        }
+        drop(reader);
+    }
+}

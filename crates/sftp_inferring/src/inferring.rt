@@ -1,0 +1,346 @@
+//! The subcommand `infer`: audits of sessions whose tree nobody knows.
+ghost use Rattle.std.specs.Prelude.{IfErr};
+ghost use Rattle.sftp_files.specs.Failures.{IsUnwritten};
+ghost use Rattle.sftp_verdicts.specs.Verdicts.{IsAuditStatus};
+
+use crate::inferences::{Found, Inferred, Judging, find};
+use crate::inferred_lines::{
+    put_assumed, put_clash, put_excess, put_exchange, put_refusal, put_spent, put_way,
+};
+use crate::inferred_objects::{print_inferred, print_untold};
+use sftp_audit::Refusal;
+use sftp_commands::is_lost;
+use sftp_files::{Ending, Failure, Keeping, System, print, read_at_most, write};
+use sftp_infer::{Excess, Search, Settings, TreeText};
+use sftp_profile::Profile;
+use sftp_verdicts::{InferOptions, TRANSCRIPT_LOST, record_of, umask_of, with_umask};
+use std::alloc::Global;
+use std::io::Write;
+
+/// The passes of a search, without an option.
+const PASSES: u32 = 300;
+
+/// The most bytes that the files of a session may have in all beside those of the transcript, without an option.
+const FILES: u64 = 1 << 30;
+
+/// Infers a tree from a session, and audits the session with it.
+pub fn infer<'a, R: System, O: Write, E: Write>(
+    rt: &R,
+    options: &InferOptions<'a>,
+    output: &mut O,
+    errors: &mut E,
+) -> Result<Ending, Failure<'a>>
+    ensures { IsAuditStatus result }
+{
+    if loses_transcript(rt, options) {
+        return Err(Failure::of_misuse(rt.alloc(), TRANSCRIPT_LOST));
+    }
+    let umask = umask_of(rt.alloc(), options.umask)?;
+    let mut options = *options;
+    options.profile = with_umask(options.profile, umask);
+    match read_at_most(rt, options.transcript, options.memory) {
+        Ok(session) => {
+            let ending = infer_from(rt, &options, session.as_slice(), output, errors);
+            drop(session);
+            ending
+        }
+        Err(failure) => Err(failure),
+    }
+}
+
+/// Whether a tree would be written into the file of the transcript.
+fn loses_transcript<R: System>(rt: &R, options: &InferOptions<'_>) -> bool {
+    let read = Some(options.transcript);
+    is_lost(rt, options.tree, read)
+        || is_lost(rt, options.best, read)
+        || is_lost(rt, options.out, read)
+}
+
+/// What a search takes for granted by these options, of a session of so many bytes.
+fn settings_of<'s>(options: &InferOptions<'s>, length: usize) -> Settings<'s> {
+    let profile = options.profile.unwrap_or(Profile::strict());
+    let passes = options.passes.unwrap_or(u64::from(PASSES));
+    Settings {
+        home: match options.home {
+            Some(home) => Some(home.as_bytes()),
+            None => None,
+        },
+        is_raised: options.is_raised,
+        is_strict: options.profile.is_none(),
+        any_code: profile.codes,
+        may_deny: profile.denied,
+        may_be_full: profile.full,
+        umask: if profile.made {
+            Some(profile.umask)
+        } else {
+            None
+        },
+        link_first: profile.symlink_draft,
+        most: match options.memory {
+            Some(memory) => memory.saturating_sub(length as u64),
+            None => FILES.saturating_add(length as u64),
+        },
+        passes: u32::try_from(passes).unwrap_or(PASSES).min(100_000),
+    }
+}
+
+fn infer_from<'a, R: System, O: Write, E: Write>(
+    rt: &R,
+    options: &InferOptions<'a>,
+    session: &[u8],
+    output: &mut O,
+    errors: &mut E,
+) -> Result<Ending, Failure<'a>>
+    ensures { IsAuditStatus result }
+{
+    let home = options.home;
+    let mut settings = settings_of(options, session.len());
+    settings.home = match home {
+        Some(home) => Some(home.as_bytes()),
+        None => None,
+    };
+    let mut search = Search::new(rt.alloc(), session, settings)?;
+    let how = Judging {
+        alloc: rt.alloc(),
+        by: options.profile,
+        wants_end: options.out.is_some(),
+    };
+    let found = find(how, session, &mut search);
+    let ending = match found {
+        Ok(found) => {
+            let ending = report(rt, options, session, &search, &found, output, errors);
+            drop(found);
+            ending
+        }
+        Err(_) => Err(Failure::OutOfMemory),
+    };
+    drop(search);
+    ending
+}
+
+/// Says what came of a search.
+fn report<'a, R: System, O: Write, E: Write>(
+    rt: &R,
+    options: &InferOptions<'a>,
+    session: &[u8],
+    search: &Search<'_>,
+    found: &Found<'_>,
+    output: &mut O,
+    errors: &mut E,
+) -> Result<Ending, Failure<'a>>
+    ensures { IsAuditStatus result }
+{
+    match found {
+        Found::Inferred(inferred) => accept(rt, options, inferred, output, errors),
+        Found::Malformed(error) => Err(Failure::of_transcript(*error, options.transcript)),
+        Found::OutOfMemory => Err(Failure::OutOfMemory),
+        Found::Refused(refusal) => {
+            report_unpaired(rt.alloc(), options, session, *refusal, output, errors)
+        }
+        Found::TooLarge(excess) => exceed(options, *excess, output, errors),
+        Found::Nothing => refuse(rt, options, session, search, output, errors),
+        Found::Unfit(_) => refuse(rt, options, session, search, output, errors),
+    }
+}
+
+/// Says that the records of a session do not pair off, and how it can be judged if it was cut; shows where if that is
+/// asked for.
+fn report_unpaired<'a, O: Write, E: Write>(
+    alloc: Global,
+    options: &InferOptions<'a>,
+    session: &[u8],
+    refusal: Refusal,
+    output: &mut O,
+    errors: &mut E,
+) -> Result<Ending, Failure<'a>>
+    ensures { IsAuditStatus result }
+{
+    let record = record_of(refusal);
+    if options.is_json {
+        return print_untold(record, 0, output);
+    }
+    put_refusal(refusal, output)?;
+    if options.explains {
+        put_exchange(alloc, session, "found", record, errors);
+    }
+    put_way(refusal, errors);
+    Ok(Ending::Refused)
+}
+
+/// Says that the tree of what a session tells would be larger than it may be, or than any tree is.
+fn exceed<'a, O: Write, E: Write>(
+    options: &InferOptions<'a>,
+    excess: Excess,
+    output: &mut O,
+    errors: &mut E,
+) -> Result<Ending, Failure<'a>>
+    ensures { IsAuditStatus result }
+{
+    put_excess(excess, errors);
+    match excess {
+        Excess::File(_) => print_none(options.is_json, 0, 0, output),
+        Excess::Entries => print_none(options.is_json, 0, 0, output),
+        Excess::Files(_) => Err(Failure::OverLimit(options.transcript)),
+        Excess::Paths(_) => Err(Failure::OverLimit(options.transcript)),
+    }
+}
+
+/// Says that there is no tree, since one record contradicts another one; 0 stands for none.
+fn print_none<'a, O: Write>(
+    is_json: bool,
+    told: u64,
+    found: u64,
+    output: &mut O,
+) -> Result<Ending, Failure<'a>>
+    ensures { IsAuditStatus result }
+{
+    if is_json {
+        return print_untold(found, told, output);
+    }
+    print_contradiction(told, found, output)
+}
+
+/// Writes the files of an accepted session, and says so.
+fn accept<'a, R: System, O: Write, E: Write>(
+    rt: &R,
+    options: &InferOptions<'a>,
+    inferred: &Inferred<'_>,
+    output: &mut O,
+    errors: &mut E,
+) -> Result<Ending, Failure<'a>>
+    ensures { IsAuditStatus result }
+{
+    write_files(rt, options, inferred)?;
+    put_assumed(&inferred.candidate, errors);
+    if options.is_json {
+        return print_object(rt.alloc(), inferred, output);
+    }
+    let requests = inferred.ended.requests;
+    let entries = inferred.candidate.entries;
+    print(
+        output,
+        format_args!("inferred {entries} entries from {requests} requests; accepted\n"),
+        Ending::Done,
+    )
+}
+
+/// Writes the tree file of the start and that of the end, if files are named for them.
+fn write_files<'a, R: System>(
+    rt: &R,
+    options: &InferOptions<'a>,
+    inferred: &Inferred<'_>,
+) -> Result<(), Failure<'a>>
+    ensures { IfErr result IsUnwritten }
+{
+    if let Some(name) = options.tree {
+        write_text(rt, name, options.keeping, &inferred.candidate.tree)?;
+    }
+    match (options.out, &inferred.ended.tree) {
+        (Some(name), Some(tree)) => write(rt, name, options.keeping, tree.as_slice()),
+        _ => Ok(()),
+    }
+}
+
+/// Writes a tree file.
+fn write_text<'a, R: System>(
+    rt: &R,
+    name: &'a str,
+    keeping: Keeping,
+    text: &TreeText<'_>,
+) -> Result<(), Failure<'a>>
+    ensures { IfErr result IsUnwritten }
+{
+    match text.whole() {
+        Ok(bytes) => {
+            let written = write(rt, name, keeping, bytes.as_slice());
+            drop(bytes);
+            written
+        }
+        Err(_no_memory) => Err(Failure::OutOfMemory),
+    }
+}
+
+/// Prints the object of an accepted session, with what its tree assumes.
+fn print_object<'a, O: Write>(
+    alloc: Global,
+    inferred: &Inferred<'_>,
+    output: &mut O,
+) -> Result<Ending, Failure<'a>>
+    ensures { IsAuditStatus result }
+{
+    let mut lines = Vec::new(alloc);
+    put_assumed(&inferred.candidate, &mut lines);
+    let printed = print_inferred(
+        inferred.ended.requests,
+        inferred.candidate.entries,
+        lines.as_slice(),
+        output,
+    );
+    drop(lines);
+    printed
+}
+
+/// Says that no tree was found, and which records contradict each other.
+fn refuse<'a, R: System, O: Write, E: Write>(
+    rt: &R,
+    options: &InferOptions<'a>,
+    session: &[u8],
+    search: &Search<'_>,
+    output: &mut O,
+    errors: &mut E,
+) -> Result<Ending, Failure<'a>>
+    ensures { IsAuditStatus result }
+{
+    write_best(rt, options, search)?;
+    if search.is_spent() {
+        put_spent(errors);
+    }
+    let (told, found) = match search.clash() {
+        Some(clash) => (clash.told, clash.found),
+        None => (0, 0),
+    };
+    let printed = print_none(options.is_json, told, found, output);
+    if options.explains && !options.is_json && printed.is_ok() {
+        put_clash(rt.alloc(), session, search, errors);
+    }
+    printed
+}
+
+/// Writes the tree of the pass that came furthest, if there is one and a file is named for it.
+fn write_best<'a, R: System>(
+    rt: &R,
+    options: &InferOptions<'a>,
+    search: &Search<'_>,
+) -> Result<(), Failure<'a>>
+    ensures { IfErr result IsUnwritten }
+{
+    match (options.best, search.best()) {
+        (Some(name), Some(tree)) => write_text(rt, name, options.keeping, tree),
+        _ => Ok(()),
+    }
+}
+
+/// The line for two records that contradict each other; 0 stands for none.
+fn print_contradiction<'a, O: Write>(
+    told: u64,
+    found: u64,
+    output: &mut O,
+) -> Result<Ending, Failure<'a>>
+    ensures { IsAuditStatus result }
+{
+    if told == 0 && found == 0 {
+        return print(output, "no tree found\n", Ending::Refused);
+    }
+    if told == 0 {
+        return print(
+            output,
+            format_args!("no tree found: nothing explains record {found}\n"),
+            Ending::Refused,
+        );
+    }
+    print(
+        output,
+        format_args!("no tree found: record {found} contradicts record {told}\n"),
+        Ending::Refused,
+    )
+}

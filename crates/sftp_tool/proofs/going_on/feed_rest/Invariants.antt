@@ -1,5 +1,0 @@
-use Rattle.sftp_transcript.specs.Recorded.{size_of}
-use Rattle.sftp_tool.proofs.going_on.feed_rest.Given as goal
-
-abbrev pub decreases-events : goal.decreases-events
-decreases-events g l = size_of l.records.ahead
