@@ -219,9 +219,10 @@ impl<'a> Search<'a> {
 
     /// Takes a pass that went through.
     fn end_clean(&mut self, choice: usize, world: &mut World) -> Result<Step<'a>, NoMemory> {
-        self.last = self.choices.learn(choice, world)?;
+        let base = self.choices.learn(choice, world)?;
+        self.last = base;
         self.guesses = std::mem::replace(&mut world.guesses, Vec::new(self.alloc));
-        self.candidate(self.last, world)
+        self.candidate(base, world)
     }
 
     /// Takes a pass that met a contradiction.
