@@ -244,8 +244,8 @@ impl World {
         Ok(len)
     }
 
-    /// How many of these bytes the start has for sure: zeros at the end may be behind the start's end, and then they are
-    /// no bytes of it.
+    /// How many of these bytes the start has for sure: zeros at the end may be behind the start's end, and then they
+    /// are no bytes of it.
     fn some_of_start(&self, at: usize, shown: Shown<'_>, len: u64) -> u64 {
         let (least, _) = self.size_now(at);
         if shown.offset.saturating_add(len) > least {

@@ -68,8 +68,8 @@ pub struct Search<'a> {
 }
 
 impl<'a> Search<'a> {
-    /// A search that has tried nothing yet. `home` is the absolute text of the place where relative paths begin, if it is
-    /// known.
+    /// A search that has tried nothing yet. `home` is the absolute text of the place where relative paths begin, if it
+    /// is known.
     ///
     /// # Errors
     ///
