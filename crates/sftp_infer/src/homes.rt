@@ -1,7 +1,7 @@
 //! Where relative paths begin, and what REALPATH tells.
 
 use crate::errors::{Stop, What};
-use crate::facts::{Fact, Says};
+use crate::facts::Says;
 use crate::look::{Found, Look};
 use crate::nodes::Sort;
 use crate::world::World;
@@ -27,7 +27,7 @@ fn before<'t>(path: &[u8], text: &'t [u8]) -> Option<&'t [u8]> {
     text.get(..home.max(1))
 }
 
-impl<'a> World<'a> {
+impl World {
     /// REALPATH told where a path leads.
     pub(crate) fn take_real(&mut self, path: &[u8], text: &[u8]) -> Result<(), Stop> {
         let found = self.reach(path, true)?;
@@ -43,7 +43,13 @@ impl<'a> World<'a> {
             return Ok(());
         }
         match self.propose_places(path, text, found) {
-            Ok(told) => self.clash_at_place(place, told, text),
+            Ok(()) => {
+                let told = match found.look {
+                    Look::Entry(at) => self.told(at),
+                    _ => 0,
+                };
+                self.clash_at_place(place, told, text)
+            }
             Err(stop) => {
                 drop(place);
                 Err(stop)
@@ -51,25 +57,26 @@ impl<'a> World<'a> {
         }
     }
 
-    /// Proposes why a path leads to another place than it seems. Returns the record that told of what is there.
-    fn propose_places(&mut self, path: &[u8], text: &[u8], found: &Found<'_>) -> Result<u64, Stop> {
-        let told = match found.look {
-            Look::Entry(at) => {
-                self.propose_link(at, text)?;
-                self.told(at)
-            }
+    /// Proposes why a path leads to another place than it seems.
+    fn propose_places(&mut self, path: &[u8], text: &[u8], found: &Found<'_>) -> Result<(), Stop> {
+        self.propose_link_there(text, found)?;
+        self.propose_targets(text)?;
+        if path.first() == Some(&b'/') {
+            return Ok(());
+        }
+        self.propose_home(path, text)
+    }
+
+    /// Proposes that what a path leads to is a link to what this text is the place of.
+    fn propose_link_there(&mut self, text: &[u8], found: &Found<'_>) -> Result<(), Stop> {
+        match found.look {
+            Look::Entry(at) => self.propose_link(at, text),
             Look::Unknown => {
                 let target = Vec::from_slice(self.alloc, text)?;
-                self.propose(found.parent, found.name(), Says::Link(target))?;
-                0
+                self.propose(found.parent, found.name(), Says::Link(target))
             }
-            _ => 0,
-        };
-        self.propose_targets(text)?;
-        if path.first() != Some(&b'/') {
-            self.propose_home(path, text)?;
+            _ => Ok(()),
         }
-        Ok(told)
     }
 
     /// The contradiction of two places to which a path leads.
@@ -99,13 +106,7 @@ impl<'a> World<'a> {
         match home_of(path, text) {
             Some(home) => {
                 let place = Vec::from_slice(self.alloc, home)?;
-                let told = self.replied;
-                self.proposals.push(Fact {
-                    place,
-                    says: Says::Home,
-                    told,
-                })?;
-                Ok(())
+                self.propose_at(place, Says::Home)
             }
             None => Ok(()),
         }

@@ -1,7 +1,7 @@
 //! What links may lead to that hide behind what a session saw.
 
 use crate::errors::Stop;
-use crate::facts::{Fact, Says};
+use crate::facts::Says;
 use crate::look::cut_last;
 use crate::names::Seat;
 use crate::nodes::Sort;
@@ -34,7 +34,7 @@ fn without_tail<'t>(one: &'t [u8], other: &'t [u8]) -> Option<(&'t [u8], &'t [u8
     if is_cut { Some((one, other)) } else { None }
 }
 
-impl<'a> World<'a> {
+impl World {
     /// Proposes that a directory above one of two files is a link to the one above the other, if both paths end in the
     /// same names.
     pub(crate) fn propose_way(&mut self, at: usize, other: usize) -> Result<(), Stop> {
@@ -45,16 +45,19 @@ impl<'a> World<'a> {
             drop(one);
             return Ok(());
         };
-        let mut done = Ok(());
-        if let Some((left, right)) = without_tail(one.as_slice(), like.as_slice()) {
-            done = self.propose_to(right, left);
-            if done.is_ok() {
-                done = self.propose_to(left, right);
-            }
-        }
+        let done = match without_tail(one.as_slice(), like.as_slice()) {
+            Some((left, right)) => self.propose_both(left, right),
+            None => Ok(()),
+        };
         drop(one);
         drop(like);
         done
+    }
+
+    /// Proposes of two places that each is a link to the other.
+    fn propose_both(&mut self, left: &[u8], right: &[u8]) -> Result<(), Stop> {
+        self.propose_to(right, left)?;
+        self.propose_to(left, right)
     }
 
     /// Proposes that a link to one place is at another one.
@@ -64,15 +67,13 @@ impl<'a> World<'a> {
         }
         let target = if target.is_empty() { b"/" } else { target };
         let says = Says::Link(Vec::from_slice(self.alloc, target)?);
-        let told = self.replied;
         match Vec::from_slice(self.alloc, place) {
-            Ok(place) => self.proposals.push(Fact { place, says, told })?,
+            Ok(place) => self.propose_at(place, says),
             Err(_) => {
                 drop(says);
-                return Err(Stop::NoMemory);
+                Err(Stop::NoMemory)
             }
         }
-        Ok(())
     }
 
     /// Proposes that an entry is a link of this length to something of its kind, by its path or by its name alone.
@@ -94,10 +95,8 @@ impl<'a> World<'a> {
 
     /// Whether an entry of the start is of this kind.
     fn is_end(&self, at: usize, sort: Sort) -> bool {
-        match self.entry(at) {
-            Some(entry) => entry.is_old && at != 0 && entry.sort == sort,
-            None => false,
-        }
+        let entry = self.entry(at);
+        entry.is_old && at != 0 && entry.sort == sort
     }
 
     /// Proposes that an entry is a link to another one, if a target of that one has this length. Says whether one has.
@@ -130,7 +129,7 @@ impl<'a> World<'a> {
 
     /// The name of an entry that was in the directory of another one at the start.
     fn name_beside(&self, at: usize, other: usize) -> Option<&[u8]> {
-        let (beside, seat) = (self.entry(at)?.old_seat, self.entry(other)?.old_seat);
+        let (beside, seat) = (self.entry(at).old_seat, self.entry(other).old_seat);
         if beside.parent == seat.parent {
             Some(self.name_at(seat))
         } else {
@@ -154,17 +153,13 @@ impl<'a> World<'a> {
 
     /// Whether an entry is a link of the start whose target is made up.
     fn is_invented(&self, at: usize) -> bool {
-        match self.entry(at) {
-            Some(link) => link.is_old && link.is_invented && link.sort == Sort::Link,
-            None => false,
-        }
+        let link = self.entry(at);
+        link.is_old && link.is_invented && link.sort == Sort::Link
     }
 
     fn propose_target(&mut self, at: usize, text: &[u8]) -> Result<(), Stop> {
-        let (length, parent) = match self.entry(at) {
-            Some(link) => (link.length, link.old_seat.parent),
-            None => return Ok(()),
-        };
+        let link = self.entry(at);
+        let (length, parent) = (link.length, link.old_seat.parent);
         self.propose_fitting(at, length, text)?;
         let above = self.place(parent, &[], true)?;
         let beside = beside(text, above.as_slice());
@@ -214,7 +209,7 @@ impl<'a> World<'a> {
 
     /// The place of the first name of this length in a directory that comes after the name at another place.
     fn next_of_length(&self, parent: usize, length: u64, last: Option<usize>) -> Option<usize> {
-        let names = &self.entry(parent)?.names;
+        let names = &self.entry(parent).names;
         let before = match last {
             Some(place) => names.name(place),
             None => &[],
