@@ -70,34 +70,31 @@ impl World {
             entry.is_itself = entry.is_itself || !follows;
             return Ok(());
         }
-        self.propose_sort(at, sort, size)?;
+        self.propose_sort(at, sort, size);
         Err(self.clash_of(at, What::Kind(known, sort)))
     }
 
     /// Proposes that an entry of the start, whose kind no reply showed, is of this kind.
-    fn propose_sort(&mut self, at: usize, sort: Sort, size: Option<u64>) -> Result<(), Stop> {
+    fn propose_sort(&mut self, at: usize, sort: Sort, size: Option<u64>) {
         if sort == Sort::Link {
-            return self.propose_link_of(at, size);
+            self.propose_link_of(at, size);
+        } else if !self.is_shown(at) || self.entry(at).is_chosen {
+            let says = if sort == Sort::Directory {
+                Says::Directory
+            } else {
+                Says::File
+            };
+            self.propose_of(at, says);
         }
-        if self.is_shown(at) && !self.entry(at).is_chosen {
-            return Ok(());
-        }
-        let says = if sort == Sort::Directory {
-            Says::Directory
-        } else {
-            Says::File
-        };
-        self.propose_of(at, says)
     }
 
     /// Proposes that an entry is a link of this length, to something else that is of its kind, or to nothing.
-    fn propose_link_of(&mut self, at: usize, length: Option<u64>) -> Result<(), Stop> {
+    fn propose_link_of(&mut self, at: usize, length: Option<u64>) {
         let entry = self.entry(at);
-        if entry.is_itself && !entry.is_chosen {
-            return Ok(());
+        if !entry.is_itself || entry.is_chosen {
+            self.propose_ends(at, length);
+            self.propose_link_astray(at, length);
         }
-        self.propose_ends(at, length)?;
-        self.propose_link_astray(at, length)
     }
 
     /// Whether a reply showed the kind of an entry, or the session made it.
@@ -197,7 +194,7 @@ impl World {
             return Ok(());
         }
         let told = self.rights(at).told;
-        self.propose_same(at, None)?;
+        self.propose_same(at, None);
         Err(self.clash_at(at, told, what))
     }
 

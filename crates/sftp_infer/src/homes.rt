@@ -42,40 +42,28 @@ impl World {
             drop(place);
             return Ok(());
         }
-        match self.propose_places(path, text, found) {
-            Ok(()) => {
-                let told = match found.look {
-                    Look::Entry(at) => self.told(at),
-                    _ => 0,
-                };
-                self.clash_at_place(place, told, text)
-            }
-            Err(stop) => {
-                drop(place);
-                Err(stop)
-            }
-        }
+        self.propose_places(path, text, found);
+        let told = match found.look {
+            Look::Entry(at) => self.told(at),
+            _ => 0,
+        };
+        self.clash_at_place(place, told, text)
     }
 
     /// Proposes why a path leads to another place than it seems.
-    fn propose_places(&mut self, path: &[u8], text: &[u8], found: &Found<'_>) -> Result<(), Stop> {
-        self.propose_link_there(text, found)?;
-        self.propose_targets(text)?;
-        if path.first() == Some(&b'/') {
-            return Ok(());
-        }
-        self.propose_home(path, text)
-    }
-
-    /// Proposes that what a path leads to is a link to what this text is the place of.
-    fn propose_link_there(&mut self, text: &[u8], found: &Found<'_>) -> Result<(), Stop> {
+    fn propose_places(&mut self, path: &[u8], text: &[u8], found: &Found<'_>) {
         match found.look {
             Look::Entry(at) => self.propose_link(at, text),
             Look::Unknown => {
-                let target = Vec::from_slice(self.alloc, text)?;
-                self.propose(found.parent, found.name(), Says::Link(target))
+                if let Some(target) = self.copy(text) {
+                    self.propose(found.parent, found.name(), Says::Link(target));
+                }
             }
-            _ => Ok(()),
+            _ => {}
+        }
+        self.propose_targets(text);
+        if path.first() != Some(&b'/') {
+            self.propose_home(path, text);
         }
     }
 
@@ -95,20 +83,17 @@ impl World {
     }
 
     /// Proposes that an entry, or the directory that it is in, is a link to what this text is the place of.
-    fn propose_link(&mut self, at: usize, text: &[u8]) -> Result<(), Stop> {
+    fn propose_link(&mut self, at: usize, text: &[u8]) {
         if !self.is_shown(at) || self.sort(at) == Sort::Unknown {
-            return self.propose_link_to(at, text);
+            self.propose_link_to(at, text);
         }
-        Ok(())
     }
 
-    fn propose_home(&mut self, path: &[u8], text: &[u8]) -> Result<(), Stop> {
-        match home_of(path, text) {
-            Some(home) => {
-                let place = Vec::from_slice(self.alloc, home)?;
-                self.propose_at(place, Says::Home)
+    fn propose_home(&mut self, path: &[u8], text: &[u8]) {
+        if let Some(home) = home_of(path, text) {
+            if let Some(place) = self.copy(home) {
+                self.propose_at(place, Says::Home);
             }
-            None => Ok(()),
         }
     }
 }

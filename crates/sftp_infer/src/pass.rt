@@ -77,7 +77,8 @@ impl World {
         for _ in 0..u64::MAX {
             match exchanges.next(session)? {
                 Some(exchange) => {
-                    if let Err(stop) = self.take(session, exchange) {
+                    let taken = self.take(session, exchange);
+                    if let Err(stop) = self.checked(taken) {
                         return passed_by(stop);
                     }
                 }

@@ -41,21 +41,26 @@ impl World {
     }
 
     /// Proposes a fact about a place of the start.
-    pub(crate) fn propose(&mut self, parent: usize, name: &[u8], says: Says) -> Result<(), Stop> {
+    pub(crate) fn propose(&mut self, parent: usize, name: &[u8], says: Says) {
         match self.old_place(parent, name) {
             Ok(place) => self.propose_at(place, says),
-            Err(error) => {
+            Err(_) => {
+                self.lacks_memory = true;
                 drop(says);
-                Err(error)
             }
         }
     }
 
     /// Proposes a fact about the place with this text.
-    pub(crate) fn propose_at(&mut self, place: Vec<u8>, says: Says) -> Result<(), Stop> {
+    pub(crate) fn propose_at(&mut self, place: Vec<u8>, says: Says) {
         let told = self.replied;
-        self.proposals.push(Fact { place, says, told })?;
-        Ok(())
+        match self.proposals.push(Fact { place, says, told }) {
+            Ok(()) => {}
+            Err(failed) => {
+                self.lacks_memory = true;
+                drop(failed);
+            }
+        }
     }
 
     /// The text of a place at the start.
@@ -186,10 +191,7 @@ impl World {
     pub(crate) fn clash_name(&mut self, spot: Spot<'_>, told: u64, what: What) -> Stop {
         match self.place(spot.parent, spot.name, false) {
             Ok(place) => {
-                if self.propose_targets(place.as_slice()).is_err() {
-                    drop(place);
-                    return Stop::NoMemory;
-                }
+                self.propose_targets(place.as_slice());
                 self.clash(place, told, what)
             }
             Err(stop) => stop,

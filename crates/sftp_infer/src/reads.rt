@@ -188,25 +188,24 @@ impl World {
 
     /// Refuses a byte that a READ shows, since another one is known there.
     fn refuse_byte(&mut self, at: usize, shown: Shown<'_>, byte: Byte) -> Result<u64, Stop> {
-        self.propose_other_sizes(at, shown)?;
+        self.propose_other_sizes(at, shown);
         let wrote = Wrote {
             session: shown.session,
             offset: byte.offset,
             byte: byte.shown,
         };
-        self.propose_same(at, Some(wrote))?;
+        self.propose_same(at, Some(wrote));
         let what = What::Byte(byte.offset, byte.known, byte.shown);
         Err(self.clash_at(at, byte.told, what))
     }
 
     /// Proposes other sizes at the start for a file whose size there is assumed, by what a READ shows.
-    fn propose_other_sizes(&mut self, at: usize, shown: Shown<'_>) -> Result<(), Stop> {
-        if !self.entry(at).file.is_guessed {
-            return Ok(());
+    fn propose_other_sizes(&mut self, at: usize, shown: Shown<'_>) {
+        if self.entry(at).file.is_guessed {
+            self.propose_sizes(at, shown);
+            let end = shown.offset.saturating_add(shown.piece.len);
+            self.propose_of(at, Says::Size(end));
         }
-        self.propose_sizes(at, shown)?;
-        let end = shown.offset.saturating_add(shown.piece.len);
-        self.propose_of(at, Says::Size(end))
     }
 
     /// Compares so many bytes with the zeros that are there.

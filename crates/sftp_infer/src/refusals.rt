@@ -293,7 +293,7 @@ impl World {
 
     fn unexplained_at(&mut self, at: usize) -> Result<(), Stop> {
         if !self.is_shown(at) {
-            self.propose_link_astray(at, None)?;
+            self.propose_link_astray(at, None);
         }
         let sort = self.sort(at);
         Err(self.clash_of(at, What::Refused(Some(sort))))

@@ -187,11 +187,11 @@ impl<'a> Search<'a> {
     }
 
     fn pass(&self, choice: usize, world: &mut World) -> Result<Passed, NoMemory> {
-        match self.choices.begin(choice, world) {
+        let begun = self.choices.begin(choice, world);
+        match world.checked(begun) {
             Ok(()) => {}
-            Err(Stop::Clash) => return Ok(Passed::Stuck),
-            Err(Stop::Again) => return Ok(Passed::Stuck),
             Err(Stop::NoMemory) => return Err(NoMemory),
+            Err(_) => return Ok(Passed::Stuck),
         }
         let left = self.settings.passes.saturating_sub(self.passes);
         world.rounds(self.session, self.work_left(), left)

@@ -25,8 +25,8 @@ impl World {
 
     /// Refuses a size that the file cannot have.
     fn refuse_size(&mut self, at: usize, least: u64, most: u64, size: u64) -> Result<(), Stop> {
-        self.propose_size(at, size)?;
-        self.propose_same(at, None)?;
+        self.propose_size(at, size);
+        self.propose_same(at, None);
         Err(self.clash_size(at, least, most, size))
     }
 
@@ -46,14 +46,13 @@ impl World {
     }
 
     /// Proposes another size at the start where it was only assumed.
-    fn propose_size(&mut self, at: usize, size: u64) -> Result<(), Stop> {
+    fn propose_size(&mut self, at: usize, size: u64) {
         let file = &self.entry(at).file;
-        if !file.is_guessed {
-            return Ok(());
+        if file.is_guessed {
+            let more = size.saturating_sub(file.furthest);
+            let start = file.least.saturating_add(more);
+            self.propose_of(at, Says::Size(start));
         }
-        let more = size.saturating_sub(file.furthest);
-        let start = file.least.saturating_add(more);
-        self.propose_of(at, Says::Size(start))
     }
 
     /// Takes a size, which the file may have, for what it says of the start.
@@ -89,7 +88,7 @@ impl World {
     pub(crate) fn tell_most(&mut self, at: usize, size: u64) -> Result<(), Stop> {
         let (least, _) = self.size_now(at);
         if least > size {
-            self.propose_same(at, None)?;
+            self.propose_same(at, None);
             return Err(self.clash_size(at, least, least, size));
         }
         let told = self.teller;
@@ -195,7 +194,7 @@ impl World {
         }
         let told = file.least_told.max(file.most_told);
         if is_guessed {
-            self.propose_of(at, Says::Size(size))?;
+            self.propose_of(at, Says::Size(size));
         }
         let known = if size < least { least } else { most };
         Err(self.clash_at(at, told, What::Size(known, size)))
@@ -265,22 +264,23 @@ fn inside_of(shown: &[u8], appended: &[u8]) -> Option<usize> {
 impl World {
     /// Proposes sizes at the start of a file to which something was appended: those with which it lies where a READ at
     /// this offset shows it.
-    pub(crate) fn propose_sizes(&mut self, at: usize, shown: Shown<'_>) -> Result<(), Stop> {
+    pub(crate) fn propose_sizes(&mut self, at: usize, shown: Shown<'_>) {
         let mut appended = Vec::new(self.alloc);
         let put = put_appended(&self.entry(at).file, shown.session, &mut appended);
         let bytes = shown.first(shown.piece.len.min(SHOWN));
         let (at_end, inside) = sizes(bytes, appended.as_slice(), shown.offset);
         drop(appended);
-        put?;
-        self.propose_if_some(at, at_end)?;
-        self.propose_if_some(at, inside)
+        if put.is_err() {
+            self.lacks_memory = true;
+        }
+        self.propose_if_some(at, at_end);
+        self.propose_if_some(at, inside);
     }
 
     /// Proposes a size at the start, if there is one.
-    fn propose_if_some(&mut self, at: usize, size: Option<u64>) -> Result<(), Stop> {
-        match size {
-            Some(size) => self.propose_of(at, Says::Size(size)),
-            None => Ok(()),
+    fn propose_if_some(&mut self, at: usize, size: Option<u64>) {
+        if let Some(size) = size {
+            self.propose_of(at, Says::Size(size));
         }
     }
 }

@@ -287,7 +287,7 @@ impl World {
     /// Refuses the target of what is no link.
     fn refuse_target(&mut self, at: usize, target: &[u8]) -> Result<(), Stop> {
         if !self.is_shown(at) {
-            self.propose_link_to(at, target)?;
+            self.propose_link_to(at, target);
         }
         let known = self.sort(at);
         Err(self.clash_of(at, What::Kind(known, Sort::Link)))
@@ -295,7 +295,7 @@ impl World {
 
     /// The contradiction of two targets of a link.
     fn clash_target(&mut self, at: usize, target: &[u8]) -> Result<(), Stop> {
-        self.propose_link_to(at, target)?;
+        self.propose_link_to(at, target);
         let known = match self.target(at) {
             Some(known) => Vec::from_slice(self.alloc, known)?,
             None => Vec::new(self.alloc),

@@ -43,64 +43,61 @@ fn is_written(file: &File, wrote: Option<Wrote<'_>>) -> bool {
 
 impl World {
     /// Proposes a fact about an entry of the start, if it is one.
-    pub(crate) fn propose_of(&mut self, at: usize, says: Says) -> Result<(), Stop> {
+    pub(crate) fn propose_of(&mut self, at: usize, says: Says) {
         match self.old_text(at) {
-            Ok(Some(place)) => self.propose_at(place, says),
-            Ok(None) => {
-                drop(says);
-                Ok(())
-            }
-            Err(error) => {
-                drop(says);
-                Err(error)
-            }
+            Some(place) => self.propose_at(place, says),
+            None => drop(says),
         }
     }
 
     /// Proposes that an entry is a link with this target.
-    pub(crate) fn propose_link_to(&mut self, at: usize, target: &[u8]) -> Result<(), Stop> {
-        let target = Vec::from_slice(self.alloc, target)?;
-        self.propose_of(at, Says::Link(target))
+    pub(crate) fn propose_link_to(&mut self, at: usize, target: &[u8]) {
+        if let Some(target) = self.copy(target) {
+            self.propose_of(at, Says::Link(target));
+        }
     }
 
     /// Proposes that an entry is a link of this length to nothing.
-    pub(crate) fn propose_link_astray(
-        &mut self,
-        at: usize,
-        length: Option<u64>,
-    ) -> Result<(), Stop> {
-        let target = self.invented(at, length)?;
-        self.propose_of(at, Says::Link(target))
+    pub(crate) fn propose_link_astray(&mut self, at: usize, length: Option<u64>) {
+        match self.invented(at, length) {
+            Ok(target) => self.propose_of(at, Says::Link(target)),
+            Err(_) => self.lacks_memory = true,
+        }
     }
 
-    /// Where an entry was at the start.
-    pub(crate) fn old_text(&self, at: usize) -> Result<Option<Vec<u8>>, Stop> {
+    /// Where an entry was at the start, if it was there; `None` too if memory runs out, which is noted.
+    pub(crate) fn old_text(&mut self, at: usize) -> Option<Vec<u8>> {
         let entry = self.entry(at);
         if at == 0 || !(entry.is_old || entry.is_chosen) {
-            return Ok(None);
+            return None;
         }
         let seat = entry.old_seat;
-        Ok(Some(self.old_place(seat.parent, self.name_at(seat))?))
+        match self.old_place(seat.parent, self.name_at(seat)) {
+            Ok(text) => Some(text),
+            Err(_) => {
+                self.lacks_memory = true;
+                None
+            }
+        }
     }
 
     /// Proposes that a file of the start is one that the session changed under another name: those first that were
     /// changed last. If a byte is given, the session wrote that.
-    pub(crate) fn propose_same(&mut self, at: usize, wrote: Option<Wrote<'_>>) -> Result<(), Stop> {
+    pub(crate) fn propose_same(&mut self, at: usize, wrote: Option<Wrote<'_>>) {
         let mut before = u64::MAX;
         for _ in 0..SAME {
             self.work = self.work.saturating_add(self.nodes.len() as u64);
             match self.changed_before(at, before, wrote) {
                 Some((other, changed)) => {
                     before = changed;
-                    self.propose_way(at, other)?;
-                    if let Some(place) = self.old_text(other)? {
-                        self.propose_of(at, Says::SameFile(place))?;
+                    self.propose_way(at, other);
+                    if let Some(place) = self.old_text(other) {
+                        self.propose_of(at, Says::SameFile(place));
                     }
                 }
-                None => return Ok(()),
+                None => return,
             }
         }
-        Ok(())
     }
 
     /// The file of the start that the session changed last before a request, but for this one.
@@ -190,7 +187,7 @@ impl World {
             None => length,
         };
         if known != length {
-            self.propose_link_astray(at, Some(length))?;
+            self.propose_link_astray(at, Some(length));
             return Err(self.clash_of(at, What::Size(known, length)));
         }
         self.entry_mut(at).length = Some(length);

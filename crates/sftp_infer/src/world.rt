@@ -68,6 +68,8 @@ pub(crate) struct World {
     pub(crate) replied: u64,
     /// The one of them that says what the exchange tells: the reply if it has more than a code or a handle.
     pub(crate) teller: u64,
+    /// Whether memory ran out for a proposal: the exchange at hand ends the pass.
+    pub(crate) lacks_memory: bool,
     /// The steps of the pass, and how many bytes of memory its facts take, about.
     pub(crate) work: u64,
     pub(crate) taken: u64,
@@ -118,9 +120,29 @@ impl World {
             asked: 0,
             replied: 0,
             teller: 0,
+            lacks_memory: false,
             work: 0,
             taken: 0,
         })
+    }
+
+    /// What came of a step: that memory ran out, if it did on the way.
+    pub(crate) fn checked(&self, step: Result<(), Stop>) -> Result<(), Stop> {
+        if self.lacks_memory {
+            return Err(Stop::NoMemory);
+        }
+        step
+    }
+
+    /// A copy of a text; `None` if memory runs out, which is noted.
+    pub(crate) fn copy(&mut self, text: &[u8]) -> Option<Vec<u8>> {
+        match Vec::from_slice(self.alloc, text) {
+            Ok(copy) => Some(copy),
+            Err(_) => {
+                self.lacks_memory = true;
+                None
+            }
+        }
     }
 
     /// Adds the components that a walk looked at to the work of the pass. Those of usual paths are no work of their
