@@ -78,7 +78,7 @@ pub(crate) struct Seen {
     is_assumed: bool,
 }
 
-impl<'a> World<'a> {
+impl World {
     /// Where a path leads, for what is asked of it.
     pub(crate) fn see(&mut self, path: &[u8], follows: bool) -> Result<Seen, Stop> {
         let found = self.look(path, follows)?;

@@ -30,7 +30,7 @@ pub(crate) fn sort_of(attrs: &Attrs) -> Sort {
     }
 }
 
-impl<'a> World<'a> {
+impl World {
     /// Takes what a reply shows of an entry.
     pub(crate) fn tell_attrs(&mut self, at: usize, attrs: &Attrs) -> Result<(), Stop> {
         self.tell_sort(at, sort_of(attrs), attrs.size)?;
@@ -65,59 +65,42 @@ impl<'a> World<'a> {
         if known == Sort::Unknown || known == sort {
             self.set_sort(at, sort);
             let follows = self.follows;
-            if let Some(entry) = self.entry_mut(at) {
-                entry.is_shown = true;
-                entry.is_itself = entry.is_itself || !follows;
-            }
+            let entry = self.entry_mut(at);
+            entry.is_shown = true;
+            entry.is_itself = entry.is_itself || !follows;
             return Ok(());
         }
-        self.propose_sort(at, sort, size)?;
+        self.propose_sort(at, sort, size);
         Err(self.clash_of(at, What::Kind(known, sort)))
     }
 
     /// Proposes that an entry of the start, whose kind no reply showed, is of this kind.
-    fn propose_sort(&mut self, at: usize, sort: Sort, size: Option<u64>) -> Result<(), Stop> {
+    fn propose_sort(&mut self, at: usize, sort: Sort, size: Option<u64>) {
         if sort == Sort::Link {
-            return self.propose_link_of(at, size);
+            self.propose_link_of(at, size);
+        } else if !self.is_shown(at) || self.entry(at).is_chosen {
+            let says = if sort == Sort::Directory {
+                Says::Directory
+            } else {
+                Says::File
+            };
+            self.propose_of(at, says);
         }
-        if self.is_shown(at) && !self.is_chosen(at) {
-            return Ok(());
-        }
-        let says = if sort == Sort::Directory {
-            Says::Directory
-        } else {
-            Says::File
-        };
-        self.propose_of(at, says)
     }
 
     /// Proposes that an entry is a link of this length, to something else that is of its kind, or to nothing.
-    fn propose_link_of(&mut self, at: usize, length: Option<u64>) -> Result<(), Stop> {
-        let is_itself = match self.entry(at) {
-            Some(entry) => entry.is_itself,
-            None => true,
-        };
-        if is_itself && !self.is_chosen(at) {
-            return Ok(());
+    fn propose_link_of(&mut self, at: usize, length: Option<u64>) {
+        let entry = self.entry(at);
+        if !entry.is_itself || entry.is_chosen {
+            self.propose_ends(at, length);
+            self.propose_link_astray(at, length);
         }
-        self.propose_ends(at, length)?;
-        self.propose_link_astray(at, length)
     }
 
     /// Whether a reply showed the kind of an entry, or the session made it.
     pub(crate) fn is_shown(&self, at: usize) -> bool {
-        match self.entry(at) {
-            Some(entry) => entry.is_shown || !entry.is_old,
-            None => true,
-        }
-    }
-
-    /// Whether an entry is taken for new where it may as well be old.
-    fn is_chosen(&self, at: usize) -> bool {
-        match self.entry(at) {
-            Some(entry) => entry.is_chosen,
-            None => false,
-        }
+        let entry = self.entry(at);
+        entry.is_shown || !entry.is_old
     }
 
     /// Takes what a reply shows of a link.
@@ -146,25 +129,18 @@ impl<'a> World<'a> {
 
     /// The owner and the permissions of an entry, as far as they are known.
     pub(crate) fn rights(&self, at: usize) -> Rights {
-        match self.entry(at) {
-            Some(entry) => entry.rights,
-            None => Rights::unknown(),
-        }
+        self.entry(at).rights
     }
 
     pub(crate) fn set_rights(&mut self, at: usize, rights: Rights) {
         let told = self.teller;
-        if let Some(entry) = self.entry_mut(at) {
-            entry.rights = rights;
-            entry.rights.told = told;
-        }
+        let entry = self.entry_mut(at);
+        entry.rights = rights;
+        entry.rights.told = told;
     }
 
     pub(crate) fn is_old(&self, at: usize) -> bool {
-        match self.entry(at) {
-            Some(entry) => entry.is_old,
-            None => false,
-        }
+        self.entry(at).is_old
     }
 
     fn tell_owner(&mut self, at: usize, owner: (u32, u32)) -> Result<(), Stop> {
@@ -218,7 +194,7 @@ impl<'a> World<'a> {
             return Ok(());
         }
         let told = self.rights(at).told;
-        self.propose_same(at, None)?;
+        self.propose_same(at, None);
         Err(self.clash_at(at, told, what))
     }
 

@@ -1,5 +1,6 @@
 //! Trees that a search gives.
 
+use crate::choices::Choices;
 use crate::facts::{Fact, Says};
 use crate::rows::Drawn;
 use crate::search::{Search, Step};
@@ -35,12 +36,8 @@ pub enum Excess {
 
 impl<'a> Search<'a> {
     /// The tree of a pass that went through.
-    pub(crate) fn candidate(
-        &self,
-        choice: usize,
-        world: &mut World<'a>,
-    ) -> Result<Step<'a>, NoMemory> {
-        match world.draw()? {
+    pub(crate) fn candidate(&self, choice: usize, world: &mut World) -> Result<Step<'a>, NoMemory> {
+        match world.draw(self.session)? {
             Drawn::Text(tree, entries) => self.candidate_of(choice, world, tree, entries),
             Drawn::TooLarge(excess) => Ok(Step::TooLarge(excess)),
         }
@@ -49,7 +46,7 @@ impl<'a> Search<'a> {
     fn candidate_of(
         &self,
         choice: usize,
-        world: &mut World<'a>,
+        world: &mut World,
         tree: TreeText<'a>,
         entries: u64,
     ) -> Result<Step<'a>, NoMemory> {
@@ -73,19 +70,26 @@ impl<'a> Search<'a> {
     fn put_assumed(
         &self,
         choice: usize,
-        world: &World<'a>,
+        world: &World,
         assumed: &mut Vec<Fact>,
     ) -> Result<(), NoMemory> {
-        let chain = self.chain(choice)?;
-        let put = self.put_assumed_of_each(chain.as_slice(), assumed);
-        drop(chain);
-        put?;
+        self.choices.put_assumed(choice, assumed)?;
         if !self.is_home_told && world.needs_home {
             let place = Vec::from_slice(self.alloc, world.home.as_slice())?;
             let (says, told) = (Says::Home, 0);
             assumed.push(Fact { place, says, told })?;
         }
         Ok(())
+    }
+}
+
+impl Choices {
+    /// Appends the facts of a choice, and of those that it adds to, that no reply tells.
+    fn put_assumed(&self, choice: usize, assumed: &mut Vec<Fact>) -> Result<(), NoMemory> {
+        let chain = self.chain(choice)?;
+        let put = self.put_assumed_of_each(chain.as_slice(), assumed);
+        drop(chain);
+        put
     }
 
     /// Appends the facts of choices that no reply tells, those of the last one first.
@@ -101,7 +105,7 @@ impl<'a> Search<'a> {
     }
 
     fn put_assumed_of(&self, index: usize, assumed: &mut Vec<Fact>) -> Result<(), NoMemory> {
-        if let Some(choice) = self.choices.get(index) {
+        if let Some(choice) = self.get(index) {
             for fact in choice.facts.iter() {
                 if is_assumed(&fact.says) {
                     assumed.push(fact.try_clone(self.alloc)?)?;

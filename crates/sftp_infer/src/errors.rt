@@ -33,6 +33,14 @@ impl<T: Drop> From<AllocFailed<T>> for Stop {
     }
 }
 
+/// What came of a step whose number is not asked for.
+pub(crate) fn done<T: Copy>(step: Result<T, Stop>) -> Result<(), Stop> {
+    match step {
+        Ok(_) => Ok(()),
+        Err(stop) => Err(stop),
+    }
+}
+
 /// What two records say of one thing.
 #[derive(Clone, Copy)]
 pub enum What {

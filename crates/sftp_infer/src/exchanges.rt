@@ -75,10 +75,8 @@ fn kind_in(packet: &Packet, number: u64) -> Option<Kind> {
 ///
 /// Packets are large: each is moved once to where it waits, and then lent.
 #[derive(Drop)]
-pub(crate) struct Exchanges<'a> {
+pub(crate) struct Exchanges {
     alloc: Global,
-    /// The records that are left.
-    left: &'a [u8],
     waiting: VecDeque<Waiting>,
     /// The reply to the first request that waits, if it is there.
     reply: Option<Record>,
@@ -91,22 +89,24 @@ pub(crate) struct Exchanges<'a> {
     end: usize,
 }
 
-impl<'a> Exchanges<'a> {
-    pub(crate) fn new(alloc: Global, session: &'a [u8]) -> Exchanges<'a> {
+impl Exchanges {
+    pub(crate) fn new(alloc: Global, session: &[u8]) -> Exchanges {
         Exchanges {
             alloc,
-            left: session.strip_prefix(&OPENING).unwrap_or(&[]),
             waiting: VecDeque::new(alloc),
             reply: None,
             early: Vec::new(alloc),
             is_given: false,
             number: 0,
-            end: OPENING.len(),
+            end: match session.strip_prefix(&OPENING) {
+                Some(_) => OPENING.len(),
+                None => session.len(),
+            },
         }
     }
 
-    /// The next exchange; `None` at the end, and from the first request on that has no reply.
-    pub(crate) fn next(&mut self) -> Result<Option<Exchange<'_>>, NoMemory> {
+    /// The next exchange of this session; `None` at the end, and from the first request on that has no reply.
+    pub(crate) fn next(&mut self, session: &[u8]) -> Result<Option<Exchange<'_>>, NoMemory> {
         if self.is_given {
             self.drop_first();
         }
@@ -115,7 +115,7 @@ impl<'a> Exchanges<'a> {
                 self.is_given = true;
                 return Ok(self.first());
             }
-            if !self.read()? {
+            if !self.read(session)? {
                 return Ok(None);
             }
         }
@@ -180,8 +180,9 @@ impl<'a> Exchanges<'a> {
     }
 
     /// Reads a record, and says whether there was one that may be there.
-    fn read(&mut self) -> Result<bool, NoMemory> {
-        let Some((direction, spelled)) = self.left.split_first() else {
+    fn read(&mut self, session: &[u8]) -> Result<bool, NoMemory> {
+        let left = session.get(self.end..).unwrap_or(&[]);
+        let Some((direction, spelled)) = left.split_first() else {
             return Ok(false);
         };
         let side = match *direction {
@@ -191,7 +192,6 @@ impl<'a> Exchanges<'a> {
         };
         match front(self.alloc, spelled, side) {
             Ok(Some((packet, length))) => {
-                self.left = spelled.get(length..).unwrap_or(&[]);
                 self.number = self.number.saturating_add(1);
                 self.end = self.end.saturating_add(length).saturating_add(1);
                 self.take(packet)

@@ -74,7 +74,7 @@ impl Fact {
     }
 }
 
-impl<'a> World<'a> {
+impl World {
     /// Begins with a fact about the start.
     pub(crate) fn begin_with(&mut self, fact: &Fact) -> Result<(), Stop> {
         self.replied = fact.told;
@@ -128,7 +128,10 @@ impl<'a> World<'a> {
 
     fn begin_as(&mut self, at: usize, says: &Says) -> Result<(), Stop> {
         match says {
-            Says::Size(size) => self.begin_sized(at, *size),
+            Says::Size(size) => {
+                self.begin_sized(at, *size);
+                Ok(())
+            }
             Says::Link(target) => {
                 let text = Vec::from_slice(self.alloc, target.as_slice())?;
                 self.lead(at, text);
@@ -138,14 +141,12 @@ impl<'a> World<'a> {
         }
     }
 
-    fn begin_sized(&mut self, at: usize, size: u64) -> Result<(), Stop> {
-        if let Some(entry) = self.entry_mut(at) {
-            entry.file.least = size;
-            entry.file.most = size;
-            entry.file.is_guessed = true;
-            entry.file.unguessed = (size, size);
-        }
-        Ok(())
+    fn begin_sized(&mut self, at: usize, size: u64) {
+        let file = &mut self.entry_mut(at).file;
+        file.least = size;
+        file.most = size;
+        file.is_guessed = true;
+        file.unguessed = (size, size);
     }
 
     /// One place is a name of the file that another one names.
@@ -158,10 +159,9 @@ impl<'a> World<'a> {
         let parent = self.begin_at(above, Sort::Directory)?;
         let spot = self.spot(parent, name);
         let told = self.teller;
-        if let Some(slot) = self.slot_mut(spot)? {
-            slot.start = Some(Held::Entry(first));
-            slot.told = told;
-        }
+        let slot = self.slot_mut(spot)?;
+        slot.start = Some(Held::Entry(first));
+        slot.told = told;
         Ok(())
     }
 }

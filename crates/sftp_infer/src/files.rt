@@ -84,6 +84,51 @@ impl File {
         self.last = asked;
     }
 
+    /// Notes that it had at least so many bytes at the start, as this record told.
+    pub(crate) fn be_at_least(&mut self, size: u64, told: u64) {
+        if size > self.least {
+            self.least = size;
+            self.least_told = told;
+        }
+    }
+
+    /// Notes that it had at most so many bytes at the start, as this record told.
+    pub(crate) fn be_at_most(&mut self, size: u64, told: u64) {
+        if size < self.most {
+            self.most = size;
+            self.most_told = told;
+        }
+    }
+
+    /// Notes that a request sets its size.
+    pub(crate) fn cut(&mut self, size: u64, told: u64) {
+        self.size = Some(size);
+        self.sized = told;
+        self.grow(size);
+        self.zeros = self.zeros.min(size);
+    }
+
+    /// Notes that a request writes up to this end.
+    pub(crate) fn reach(&mut self, end: u64, told: u64) {
+        self.grow(end);
+        if let Some(size) = self.size {
+            self.size = Some(size.max(end));
+        }
+        if end > self.furthest {
+            self.furthest = end;
+            self.written_by = told;
+        }
+    }
+
+    /// The record that told where the bytes end that may be any.
+    pub(crate) fn end_told(&self) -> u64 {
+        if self.sized == 0 {
+            self.most_told
+        } else {
+            self.sized
+        }
+    }
+
     /// Notes that the session gives it so many bytes. More than any tree holds are in no audit.
     pub(crate) fn grow(&mut self, size: u64) {
         if size <= most_limits().file_bytes {

@@ -1,7 +1,7 @@
 //! Where relative paths begin, and what REALPATH tells.
 
 use crate::errors::{Stop, What};
-use crate::facts::{Fact, Says};
+use crate::facts::Says;
 use crate::look::{Found, Look};
 use crate::nodes::Sort;
 use crate::world::World;
@@ -27,7 +27,7 @@ fn before<'t>(path: &[u8], text: &'t [u8]) -> Option<&'t [u8]> {
     text.get(..home.max(1))
 }
 
-impl<'a> World<'a> {
+impl World {
     /// REALPATH told where a path leads.
     pub(crate) fn take_real(&mut self, path: &[u8], text: &[u8]) -> Result<(), Stop> {
         let found = self.reach(path, true)?;
@@ -42,34 +42,29 @@ impl<'a> World<'a> {
             drop(place);
             return Ok(());
         }
-        match self.propose_places(path, text, found) {
-            Ok(told) => self.clash_at_place(place, told, text),
-            Err(stop) => {
-                drop(place);
-                Err(stop)
-            }
-        }
-    }
-
-    /// Proposes why a path leads to another place than it seems. Returns the record that told of what is there.
-    fn propose_places(&mut self, path: &[u8], text: &[u8], found: &Found<'_>) -> Result<u64, Stop> {
+        self.propose_places(path, text, found);
         let told = match found.look {
-            Look::Entry(at) => {
-                self.propose_link(at, text)?;
-                self.told(at)
-            }
-            Look::Unknown => {
-                let target = Vec::from_slice(self.alloc, text)?;
-                self.propose(found.parent, found.name(), Says::Link(target))?;
-                0
-            }
+            Look::Entry(at) => self.told(at),
             _ => 0,
         };
-        self.propose_targets(text)?;
-        if path.first() != Some(&b'/') {
-            self.propose_home(path, text)?;
+        self.clash_at_place(place, told, text)
+    }
+
+    /// Proposes why a path leads to another place than it seems.
+    fn propose_places(&mut self, path: &[u8], text: &[u8], found: &Found<'_>) {
+        match found.look {
+            Look::Entry(at) => self.propose_link(at, text),
+            Look::Unknown => {
+                if let Some(target) = self.copy(text) {
+                    self.propose(found.parent, found.name(), Says::Link(target));
+                }
+            }
+            _ => {}
         }
-        Ok(told)
+        self.propose_targets(text);
+        if path.first() != Some(&b'/') {
+            self.propose_home(path, text);
+        }
     }
 
     /// The contradiction of two places to which a path leads.
@@ -88,26 +83,17 @@ impl<'a> World<'a> {
     }
 
     /// Proposes that an entry, or the directory that it is in, is a link to what this text is the place of.
-    fn propose_link(&mut self, at: usize, text: &[u8]) -> Result<(), Stop> {
+    fn propose_link(&mut self, at: usize, text: &[u8]) {
         if !self.is_shown(at) || self.sort(at) == Sort::Unknown {
-            return self.propose_link_to(at, text);
+            self.propose_link_to(at, text);
         }
-        Ok(())
     }
 
-    fn propose_home(&mut self, path: &[u8], text: &[u8]) -> Result<(), Stop> {
-        match home_of(path, text) {
-            Some(home) => {
-                let place = Vec::from_slice(self.alloc, home)?;
-                let told = self.replied;
-                self.proposals.push(Fact {
-                    place,
-                    says: Says::Home,
-                    told,
-                })?;
-                Ok(())
+    fn propose_home(&mut self, path: &[u8], text: &[u8]) {
+        if let Some(home) = home_of(path, text) {
+            if let Some(place) = self.copy(home) {
+                self.propose_at(place, Says::Home);
             }
-            None => Ok(()),
         }
     }
 }

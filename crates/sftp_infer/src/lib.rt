@@ -5,6 +5,7 @@
 mod asks;
 mod attributes;
 mod candidates;
+mod choices;
 mod errors;
 mod exchanges;
 mod facts;

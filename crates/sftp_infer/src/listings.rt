@@ -9,7 +9,7 @@ use crate::world::World;
 use sftp_path::{is_dot, is_dot_dot, is_name};
 use sftp_wire::{NameItem, Names};
 
-impl<'a> World<'a> {
+impl World {
     /// Takes the names that a listing gave.
     pub(crate) fn list(&mut self, listing: Opened, names: &Names) -> Result<(), Stop> {
         for item in names.as_slice() {
@@ -39,9 +39,8 @@ impl<'a> World<'a> {
 
     /// Notes that a listing gave a name.
     fn mark(&mut self, listing: Opened, spot: Spot<'_>) -> Result<(), Stop> {
-        if let Some(slot) = self.slot_mut(spot)? {
-            slot.listed = slot.listed.max(listing.told);
-        }
+        let slot = self.slot_mut(spot)?;
+        slot.listed = slot.listed.max(listing.told);
         Ok(())
     }
 
@@ -52,18 +51,10 @@ impl<'a> World<'a> {
 
     /// Takes what a listing shows of an entry, unless a request may have changed it since the listing was opened.
     fn list_entry(&mut self, listing: Opened, at: usize, item: &NameItem) -> Result<(), Stop> {
-        if self.changed(at) > listing.asked {
+        if self.entry(at).changed() > listing.asked {
             return self.list_changed(listing, at, item);
         }
         self.tell_attrs(at, &item.attrs)
-    }
-
-    /// The last request that changed an entry's attributes.
-    fn changed(&self, at: usize) -> u64 {
-        match self.entry(at) {
-            Some(entry) => entry.file.last.max(entry.rights.last),
-            None => 0,
-        }
     }
 
     /// Takes what a listing shows of an entry that was changed since the listing was opened: what it was at the start,
@@ -71,12 +62,8 @@ impl<'a> World<'a> {
     fn list_changed(&mut self, listing: Opened, at: usize, item: &NameItem) -> Result<(), Stop> {
         self.tell_sort(at, sort_of(&item.attrs), item.attrs.size)?;
         self.list_changed_rights(listing, at, item)?;
-        let (first, is_old) = match self.entry(at) {
-            Some(entry) => (entry.file.first, entry.is_old),
-            None => (0, false),
-        };
         match item.attrs.size {
-            Some(size) if is_old && first > listing.asked && self.sort(at) == Sort::File => {
+            Some(size) if self.entry(at).is_old_file(listing.asked) => {
                 self.tell_start_size(at, size)
             }
             _ => Ok(()),
@@ -135,13 +122,9 @@ impl<'a> World<'a> {
 
     /// The first name that was in the directory all the time, and that a listing left out.
     fn left_out(&mut self, listing: Opened) -> Result<Option<(Slot, Vec<u8>)>, Stop> {
-        let Some(directory) = self.nodes.get(listing.entry) else {
-            return Ok(None);
-        };
-        self.work = self
-            .work
-            .saturating_add(directory.names.each().len() as u64);
-        match first_left_out(directory, listing) {
+        let names = self.entry(listing.entry).names.each().len() as u64;
+        self.work = self.work.saturating_add(names);
+        match first_left_out(self.entry(listing.entry), listing) {
             Some(named) => {
                 let name = Vec::from_slice(self.alloc, named.name.as_slice())?;
                 Ok(Some((named.slot, name)))

@@ -179,7 +179,7 @@ impl<'w> Walk<'w> {
     }
 }
 
-impl<'a> World<'a> {
+impl World {
     /// Where a path leads now.
     pub(crate) fn look<'p>(&self, path: &'p [u8], follows: bool) -> Result<Found<'p>, NoMemory> {
         let ended = self.walk_from(path, follows)?;
@@ -279,14 +279,12 @@ impl<'a> World<'a> {
         let look = Look::Entry(walk.at);
         walk.found = Place::NotSought;
         walk.is_given = false;
-        match self.entry(walk.at) {
-            Some(_) if walk.at == 0 => Step::End(look, &[]),
-            Some(directory) => {
-                walk.at = directory.seat.parent;
-                Step::End(look, self.name_at(directory.seat))
-            }
-            None => Step::End(look, &[]),
+        if walk.at == 0 {
+            return Step::End(look, &[]);
         }
+        let seat = self.entry(walk.at).seat;
+        walk.at = seat.parent;
+        Step::End(look, self.name_at(seat))
     }
 
     fn enter<'w>(
@@ -299,10 +297,7 @@ impl<'a> World<'a> {
             return Ok(Step::On);
         }
         if is_dot_dot(name) {
-            walk.at = match self.entry(walk.at) {
-                Some(directory) => directory.seat.parent,
-                None => 0,
-            };
+            walk.at = self.entry(walk.at).seat.parent;
             return Ok(Step::On);
         }
         let is_last = walk.is_done();
@@ -357,32 +352,24 @@ impl<'a> World<'a> {
 
     /// The target of a link, if it is known.
     pub(crate) fn target(&self, at: usize) -> Option<&[u8]> {
-        match self.entry(at) {
-            Some(link) => match &link.target {
-                Some(target) => Some(target.as_slice()),
-                None => None,
-            },
+        match &self.entry(at).target {
+            Some(target) => Some(target.as_slice()),
             None => None,
         }
     }
 
     /// What a name in a directory leads to now, and the record that told it, if that is known.
     pub(crate) fn held(&self, spot: Spot<'_>) -> Option<(Held, u64)> {
-        let directory = self.entry(spot.parent)?;
-        let known = match directory.names.get(spot) {
-            Some(slot) => match slot.now {
-                Some(held) => Some((held, slot.changed)),
-                None => match slot.start {
-                    Some(held) => Some((held, slot.told)),
-                    None => None,
-                },
-            },
+        let slot = self.slot(spot);
+        if let Some(held) = slot.now {
+            return Some((held, slot.changed));
+        }
+        if let Some(held) = slot.start {
+            return Some((held, slot.told));
+        }
+        match self.entry(spot.parent).complete {
+            Some(told) => Some((Held::Nothing, told)),
             None => None,
-        };
-        match (known, directory.complete) {
-            (Some(known), _) => Some(known),
-            (None, Some(told)) => Some((Held::Nothing, told)),
-            (None, None) => None,
         }
     }
 }

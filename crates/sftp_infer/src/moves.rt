@@ -1,6 +1,6 @@
 //! Requests that make, remove and move names.
 
-use crate::errors::{Stop, What};
+use crate::errors::{Stop, What, done};
 use crate::look::{Found, Look};
 use crate::names::Spot;
 use crate::nodes::{Held, Sort};
@@ -10,7 +10,7 @@ use sftp_wire::Attrs;
 /// How often a walk is begun anew, since what it met was told on the way.
 const WALKS: u32 = 8_192;
 
-impl<'a> World<'a> {
+impl World {
     /// Where a path leads whose request was done: each name on the way is a directory.
     pub(crate) fn reach<'p>(&mut self, path: &'p [u8], follows: bool) -> Result<Found<'p>, Stop> {
         for _ in 0..WALKS {
@@ -42,19 +42,13 @@ impl<'a> World<'a> {
     fn open_way_at(&mut self, found: &Found<'_>) -> Result<(), Stop> {
         let spot = found.spot();
         match found.look {
-            Look::UnknownWay => {
-                self.tell(spot, Sort::Directory)?;
-                Ok(())
-            }
+            Look::UnknownWay => done(self.tell(spot, Sort::Directory)),
             Look::Unsure(at) => {
                 self.set_sort(at, Sort::Directory);
                 Ok(())
             }
             Look::Blind(at) => self.invent_target(at),
-            Look::NoEntry(told) => {
-                self.require(spot, told)?;
-                Ok(())
-            }
+            Look::NoEntry(told) => done(self.require(spot, told)),
             _ => Ok(()),
         }
     }
@@ -128,9 +122,7 @@ impl<'a> World<'a> {
         let done = self.make(Sort::Directory, found.spot());
         drop(found);
         let at = done?;
-        if let Some(made) = self.entry_mut(at) {
-            made.rights = rights;
-        }
+        self.entry_mut(at).rights = rights;
         Ok(())
     }
 
@@ -182,10 +174,9 @@ impl<'a> World<'a> {
     /// Tells that a directory has no names but those that are known.
     pub(crate) fn complete(&mut self, at: usize) {
         let told = self.teller;
-        if let Some(directory) = self.entry_mut(at) {
-            if directory.complete.is_none() {
-                directory.complete = Some(told);
-            }
+        let directory = self.entry_mut(at);
+        if directory.complete.is_none() {
+            directory.complete = Some(told);
         }
     }
 

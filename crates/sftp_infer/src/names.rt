@@ -160,16 +160,6 @@ impl DirectoryNames {
         }
     }
 
-    /// What is known of a name, to be changed. The name is added if it is not there.
-    pub(crate) fn slot_mut(
-        &mut self,
-        alloc: Global,
-        spot: Spot<'_>,
-    ) -> Result<Option<&mut Slot>, Stop> {
-        let place = self.seat(alloc, spot)?;
-        Ok(self.slot_at(place))
-    }
-
     /// Where in the list a name is, which is added if it is not there.
     pub(crate) fn seat(&mut self, alloc: Global, spot: Spot<'_>) -> Result<usize, Stop> {
         match self.place_again(spot) {

@@ -137,6 +137,16 @@ impl Node {
         }
     }
 
+    /// The last request that changed its attributes.
+    pub(crate) fn changed(&self) -> u64 {
+        self.file.last.max(self.rights.last)
+    }
+
+    /// Whether it is a file of the start that requests changed only after this one.
+    pub(crate) fn is_old_file(&self, asked: u64) -> bool {
+        self.is_old && self.file.first > asked && self.sort == Sort::File
+    }
+
     /// Makes it an entry that the session made.
     pub(crate) fn be_new(&mut self, told: u64) {
         self.is_old = false;

@@ -8,7 +8,7 @@ use crate::world::World;
 use bitflags::Flags;
 use sftp_wire::{Ask, Attrs, ByteString, OpenFlags};
 
-impl<'a> World<'a> {
+impl World {
     /// A reply gave a handle.
     pub(crate) fn take_handle(&mut self, ask: &Ask, handle: &ByteString) -> Result<(), Stop> {
         let (entry, flags, is_listing) = match ask {
@@ -43,20 +43,31 @@ impl<'a> World<'a> {
     /// OPEN was done.
     fn open(&mut self, path: &[u8], flags: u32, attrs: &Attrs) -> Result<usize, Stop> {
         let set = OpenFlags::from_bits_retain(flags);
-        if set.contains(OpenFlags::EXCL) && set.contains(OpenFlags::CREAT) {
-            let found = self.reach_free(path)?;
-            let at = self.make_file(&found, attrs, false);
-            drop(found);
-            return at;
+        let makes = set.contains(OpenFlags::CREAT);
+        if makes && set.contains(OpenFlags::EXCL) {
+            return self.open_new(path, attrs);
         }
-        let found = self.reach(path, true)?;
-        let at = self.open_found(&found, set.contains(OpenFlags::CREAT), attrs);
-        drop(found);
-        let at = at?;
+        let at = self.open_path(path, makes, attrs)?;
         if set.contains(OpenFlags::TRUNC) {
             self.cut(at, 0)?;
         }
         Ok(at)
+    }
+
+    /// OPEN made a file.
+    fn open_new(&mut self, path: &[u8], attrs: &Attrs) -> Result<usize, Stop> {
+        let found = self.reach_free(path)?;
+        let at = self.make_file(&found, attrs, false);
+        drop(found);
+        at
+    }
+
+    /// OPEN opened what was there, or may have made it.
+    fn open_path(&mut self, path: &[u8], makes: bool, attrs: &Attrs) -> Result<usize, Stop> {
+        let found = self.reach(path, true)?;
+        let at = self.open_found(&found, makes, attrs);
+        drop(found);
+        at
     }
 
     fn open_found(&mut self, found: &Found<'_>, makes: bool, attrs: &Attrs) -> Result<usize, Stop> {
@@ -92,10 +103,9 @@ impl<'a> World<'a> {
     ) -> Result<usize, Stop> {
         let rights = self.made_rights(attrs, 0o644, 0o666);
         let at = self.make(Sort::File, found.spot())?;
-        if let Some(made) = self.entry_mut(at) {
-            made.rights = rights;
-            made.is_chosen = is_chosen;
-        }
+        let made = self.entry_mut(at);
+        made.rights = rights;
+        made.is_chosen = is_chosen;
         Ok(at)
     }
 }

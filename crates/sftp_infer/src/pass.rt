@@ -20,7 +20,7 @@ const FREE_BYTES: u64 = 1 << 20;
 const PLACE_BYTES: u64 = 128;
 
 /// What a pass comes to.
-#[derive(Clone, Copy, PartialEq, Eq)]
+#[derive(Clone, Copy)]
 pub(crate) enum Passed {
     /// Every reply fits.
     Clean,
@@ -41,14 +41,19 @@ fn passed_by(stop: Stop) -> Result<Passed, NoMemory> {
     }
 }
 
-impl<'a> World<'a> {
+impl World {
     /// Goes through the session: first for what was done alone, until nothing new comes of it, and then for what was
     /// refused, too. So what a refusal may mean is judged with all that is known of the start. `most` is how many steps
     /// all of it may take, and `passes` how often it may go through.
-    pub(crate) fn rounds(&mut self, most: u64, passes: u32) -> Result<Passed, NoMemory> {
+    pub(crate) fn rounds(
+        &mut self,
+        session: &[u8],
+        most: u64,
+        passes: u32,
+    ) -> Result<Passed, NoMemory> {
         for _ in 0..ROUNDS.min(passes) {
-            let mut exchanges = Exchanges::new(self.alloc, self.session);
-            let passed = self.pass(&mut exchanges, most);
+            let mut exchanges = Exchanges::new(self.alloc, session);
+            let passed = self.pass(session, &mut exchanges, most);
             drop(exchanges);
             self.passes = self.passes.saturating_add(1);
             match passed? {
@@ -64,14 +69,16 @@ impl<'a> World<'a> {
     /// Takes each exchange of the session. `most` is how many steps it may take.
     pub(crate) fn pass(
         &mut self,
-        exchanges: &mut Exchanges<'_>,
+        session: &[u8],
+        exchanges: &mut Exchanges,
         most: u64,
     ) -> Result<Passed, NoMemory> {
         let known = self.learned.len();
         for _ in 0..u64::MAX {
-            match exchanges.next()? {
+            match exchanges.next(session)? {
                 Some(exchange) => {
-                    if let Err(stop) = self.take(exchange) {
+                    let taken = self.take(session, exchange);
+                    if let Err(stop) = self.checked(taken) {
                         return passed_by(stop);
                     }
                 }
@@ -92,8 +99,10 @@ impl<'a> World<'a> {
     /// each place.
     fn is_over(&self) -> bool {
         let places = (self.nodes.len() as u64).saturating_mul(PLACE_BYTES);
-        let session = self.session.len() as u64;
-        let most = session.saturating_sub(session / 4).saturating_add(places);
+        let most = self
+            .length
+            .saturating_sub(self.length / 4)
+            .saturating_add(places);
         self.taken > most.saturating_add(FREE_BYTES)
     }
 }
@@ -156,7 +165,7 @@ fn bytes_of(facts: &[Fact]) -> u64 {
     sum
 }
 
-impl<'a> World<'a> {
+impl World {
     /// Goes back to the start of the session, with what is known of it.
     pub(crate) fn rewind(&mut self) -> Result<(), NoMemory> {
         drop(std::mem::replace(&mut self.handles, Handles::new(self.alloc)));
@@ -178,9 +187,7 @@ impl<'a> World<'a> {
     /// Rewinds an entry; one that the session made is there no more.
     fn rewind_at(&mut self, at: usize) -> Result<(), NoMemory> {
         let alloc = self.alloc;
-        let Some(entry) = self.entry_mut(at) else {
-            return Ok(());
-        };
+        let entry = self.entry_mut(at);
         if entry.is_old {
             let shown = entry.file.shown.len() as u64;
             entry.rewind(alloc);

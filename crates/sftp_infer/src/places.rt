@@ -6,7 +6,14 @@ use crate::names::{Seat, Spot};
 use crate::world::World;
 use sftp_path::DEPTH_LIMIT;
 
-impl<'a> World<'a> {
+/// Appends a slash and a name.
+fn put_part(name: &[u8], text: &mut Vec<u8>) -> Result<(), Stop> {
+    text.push(b'/')?;
+    text.extend_from_slice(name)?;
+    Ok(())
+}
+
+impl World {
     /// Learns a fact about a place of the start.
     pub(crate) fn learn(&mut self, parent: usize, name: &[u8], says: Says) -> Result<(), Stop> {
         match self.old_place(parent, name) {
@@ -34,16 +41,24 @@ impl<'a> World<'a> {
     }
 
     /// Proposes a fact about a place of the start.
-    pub(crate) fn propose(&mut self, parent: usize, name: &[u8], says: Says) -> Result<(), Stop> {
+    pub(crate) fn propose(&mut self, parent: usize, name: &[u8], says: Says) {
         match self.old_place(parent, name) {
-            Ok(place) => {
-                let told = self.replied;
-                self.proposals.push(Fact { place, says, told })?;
-                Ok(())
-            }
-            Err(error) => {
+            Ok(place) => self.propose_at(place, says),
+            Err(_) => {
+                self.lacks_memory = true;
                 drop(says);
-                Err(error)
+            }
+        }
+    }
+
+    /// Proposes a fact about the place with this text.
+    pub(crate) fn propose_at(&mut self, place: Vec<u8>, says: Says) {
+        let told = self.replied;
+        match self.proposals.push(Fact { place, says, told }) {
+            Ok(()) => {}
+            Err(failed) => {
+                self.lacks_memory = true;
+                drop(failed);
             }
         }
     }
@@ -77,7 +92,7 @@ impl<'a> World<'a> {
                 return Ok(above);
             }
             above.push(at)?;
-            at = self.parent_of(at, is_old);
+            at = self.seat_of(at, is_old).parent;
         }
         Ok(above)
     }
@@ -91,50 +106,32 @@ impl<'a> World<'a> {
         text: &mut Vec<u8>,
     ) -> Result<(), Stop> {
         for at in above.iter().rev() {
-            self.put_name(*at, is_old, text)?;
+            put_part(self.name_at(self.seat_of(*at, is_old)), text)?;
         }
-        if !name.is_empty() || text.is_empty() {
-            text.push(b'/')?;
-            text.extend_from_slice(name)?;
+        if name.is_empty() && !text.is_empty() {
+            return Ok(());
         }
-        Ok(())
+        put_part(name, text)
     }
 
-    /// The directory that an entry is in, at the start or now.
-    fn parent_of(&self, at: usize, is_old: bool) -> usize {
-        match self.entry(at) {
-            Some(entry) if is_old => entry.old_seat.parent,
-            Some(entry) => entry.seat.parent,
-            None => 0,
-        }
+    /// Where the name of an entry is, at the start or now.
+    fn seat_of(&self, at: usize, is_old: bool) -> Seat {
+        let entry = self.entry(at);
+        if is_old { entry.old_seat } else { entry.seat }
     }
 
     /// The name at a seat.
     pub(crate) fn name_at(&self, seat: Seat) -> &[u8] {
-        match self.entry(seat.parent) {
-            Some(directory) => directory.names.name(seat.place),
-            None => &[],
-        }
-    }
-
-    /// Appends a slash and the name of an entry.
-    fn put_name(&self, at: usize, is_old: bool, text: &mut Vec<u8>) -> Result<(), Stop> {
-        text.push(b'/')?;
-        if let Some(entry) = self.entry(at) {
-            let seat = if is_old { entry.old_seat } else { entry.seat };
-            text.extend_from_slice(self.name_at(seat))?;
-        }
-        Ok(())
+        self.entry(seat.parent).names.name(seat.place)
     }
 
     /// The text of the place where an entry is now.
     pub(crate) fn place_now(&self, at: usize) -> Result<Vec<u8>, Stop> {
-        match self.entry(at) {
-            Some(entry) if at != 0 => {
-                self.place(entry.seat.parent, self.name_at(entry.seat), false)
-            }
-            _ => self.place(0, &[], false),
+        if at == 0 {
+            return self.place(0, &[], false);
         }
+        let seat = self.entry(at).seat;
+        self.place(seat.parent, self.name_at(seat), false)
     }
 
     /// The contradiction of the reply at hand with the record that told of an entry.
@@ -194,10 +191,7 @@ impl<'a> World<'a> {
     pub(crate) fn clash_name(&mut self, spot: Spot<'_>, told: u64, what: What) -> Stop {
         match self.place(spot.parent, spot.name, false) {
             Ok(place) => {
-                if self.propose_targets(place.as_slice()).is_err() {
-                    drop(place);
-                    return Stop::NoMemory;
-                }
+                self.propose_targets(place.as_slice());
                 self.clash(place, told, what)
             }
             Err(stop) => stop,

@@ -3,6 +3,7 @@
 use crate::errors::{Stop, What};
 use crate::facts::Says;
 use crate::pieces::{Known, Piece};
+use crate::targets::Wrote;
 use crate::world::World;
 
 /// The fewest bytes that the limit of one READ may be.
@@ -29,15 +30,39 @@ struct Byte {
     shown: u8,
 }
 
-/// The place of the first byte in which these differ.
-fn first_difference(one: &[u8], other: &[u8]) -> Option<usize> {
+/// The bytes that a READ shows at an offset, and the session, which has them.
+#[derive(Clone, Copy)]
+pub(crate) struct Shown<'s> {
+    pub(crate) session: &'s [u8],
+    pub(crate) offset: u64,
+    pub(crate) piece: Piece,
+}
+
+impl Shown<'_> {
+    /// So many bytes of it, the first ones.
+    pub(crate) fn first(&self, len: u64) -> &[u8] {
+        part(self.session, self.piece.from, len)
+    }
+
+    /// What is behind so many bytes of it.
+    fn behind(self, len: u64) -> Self {
+        Shown {
+            session: self.session,
+            offset: self.offset.saturating_add(len),
+            piece: self.piece.without(len),
+        }
+    }
+}
+
+/// The place of the first byte in which these differ, and both bytes there.
+fn first_difference(one: &[u8], other: &[u8]) -> Option<(usize, u8, u8)> {
     if one == other {
         return None;
     }
     let mut place: usize = 0;
     for (left, right) in one.iter().zip(other) {
         if left != right {
-            return Some(place);
+            return Some((place, *left, *right));
         }
         place = place.saturating_add(1);
     }
@@ -65,7 +90,7 @@ fn without_zeros(bytes: &[u8]) -> u64 {
 }
 
 /// So many bytes from a place on.
-fn part(bytes: &[u8], from: usize, len: u64) -> &[u8] {
+pub(crate) fn part(bytes: &[u8], from: usize, len: u64) -> &[u8] {
     let end = from.saturating_add(len as usize);
     match bytes.get(from..end) {
         Some(part) => part,
@@ -73,80 +98,57 @@ fn part(bytes: &[u8], from: usize, len: u64) -> &[u8] {
     }
 }
 
-impl<'a> World<'a> {
+impl World {
     /// Takes the bytes that a READ gave, of which so many were asked for.
-    pub(crate) fn read(
-        &mut self,
-        at: usize,
-        offset: u64,
-        asked: u64,
-        piece: Piece,
-    ) -> Result<(), Stop> {
-        self.most_read = self.most_read.max(piece.len);
-        if self.is_blurred(at) {
+    pub(crate) fn read(&mut self, at: usize, asked: u64, shown: Shown<'_>) -> Result<(), Stop> {
+        let len = shown.piece.len;
+        self.most_read = self.most_read.max(len);
+        if self.entry(at).file.is_blurred {
             return Ok(());
         }
-        let end = offset.saturating_add(piece.len);
+        let end = shown.offset.saturating_add(len);
         if asked == 0 && self.settings.is_strict {
             return self.tell_least(at, end.saturating_add(1));
         }
-        if piece.len < asked && piece.len < READ_LIMIT {
+        if len < asked && len < READ_LIMIT {
             self.tell_size(at, end)?;
         }
-        if piece.len > 0 {
-            self.read_bytes(at, offset, piece)?;
-        }
-        Ok(())
-    }
-
-    fn is_blurred(&self, at: usize) -> bool {
-        match self.entry(at) {
-            Some(entry) => entry.file.is_blurred,
-            None => true,
-        }
+        self.read_bytes(at, shown)
     }
 
     /// Tells that a READ at an offset found the end.
     pub(crate) fn read_end(&mut self, at: usize, offset: u64) -> Result<(), Stop> {
-        if self.is_blurred(at) {
+        if self.entry(at).file.is_blurred {
             return Ok(());
         }
         self.tell_most(at, offset)
     }
 
-    fn read_bytes(&mut self, at: usize, offset: u64, piece: Piece) -> Result<(), Stop> {
-        let mut offset = offset;
-        let mut piece = piece;
+    fn read_bytes(&mut self, at: usize, shown: Shown<'_>) -> Result<(), Stop> {
+        let mut left = shown;
         for segment in 0..u64::MAX {
-            if piece.len == 0 {
+            if left.piece.len == 0 {
                 self.count_steps(segment);
                 return Ok(());
             }
-            let taken = self.read_segment(at, offset, piece)?;
-            offset = offset.saturating_add(taken);
-            piece = piece.without(taken);
+            let taken = self.read_segment(at, left)?;
+            left = left.behind(taken);
         }
         Ok(())
     }
 
-    /// Takes the first bytes of a piece, and says how many; none if they are to be looked at again.
-    fn read_segment(&mut self, at: usize, offset: u64, piece: Piece) -> Result<u64, Stop> {
-        match self.segment(at, offset, piece.len) {
-            Segment::Bytes(known, len) => self.compare(at, offset, known, piece, len),
-            Segment::Zeros(len) => self.compare_zeros(at, offset, piece, len),
-            Segment::Fresh(len) => {
-                self.show(at, offset, piece, len)?;
-                Ok(len)
-            }
+    /// Takes the first bytes of those that are shown, and says how many; none if they are to be looked at again.
+    fn read_segment(&mut self, at: usize, shown: Shown<'_>) -> Result<u64, Stop> {
+        match self.segment(at, shown.offset, shown.piece.len) {
+            Segment::Bytes(known, len) => self.compare(at, shown, known, len),
+            Segment::Zeros(len) => self.compare_zeros(at, shown, len),
+            Segment::Fresh(len) => self.show(at, shown, len),
         }
     }
 
     /// What is known of so many bytes from an offset on, or of the first ones of them.
     fn segment(&self, at: usize, offset: u64, most: u64) -> Segment {
-        let Some(entry) = self.entry(at) else {
-            return Segment::Fresh(most);
-        };
-        let file = &entry.file;
+        let file = &self.entry(at).file;
         match file.written.known(offset) {
             Known::Bytes(piece) => Segment::Bytes(piece, piece.len.min(most)),
             Known::Gap(gap) if offset >= file.hole() => Segment::Zeros(gap.min(most)),
@@ -160,151 +162,115 @@ impl<'a> World<'a> {
         }
     }
 
+    /// Compares so many bytes with those that are known.
     fn compare(
         &mut self,
         at: usize,
-        offset: u64,
+        shown: Shown<'_>,
         known: Piece,
-        piece: Piece,
         len: u64,
     ) -> Result<u64, Stop> {
-        let session = self.session;
-        let one = part(session, known.from, len);
-        let other = part(session, piece.from, len);
-        match first_difference(one, other) {
+        let one = part(shown.session, known.from, len);
+        match first_difference(one, shown.first(len)) {
             None => Ok(len),
-            Some(place) => {
+            Some((place, left, right)) => {
                 let byte = Byte {
-                    offset: offset.saturating_add(place as u64),
-                    known: one.get(place).copied().unwrap_or(0),
+                    offset: shown.offset.saturating_add(place as u64),
+                    known: left,
                     told: known.told,
-                    shown: other.get(place).copied().unwrap_or(0),
+                    shown: right,
                 };
                 self.revive(at)?;
-                self.refuse_byte(at, offset, piece, byte)
+                self.refuse_byte(at, shown, byte)
             }
         }
     }
 
-    /// Refuses a byte that a READ at an offset shows, since another one is known there.
-    fn refuse_byte(
-        &mut self,
-        at: usize,
-        offset: u64,
-        piece: Piece,
-        byte: Byte,
-    ) -> Result<u64, Stop> {
-        self.propose_other_sizes(at, offset, piece)?;
-        self.propose_same(at, Some((byte.offset, byte.shown)))?;
+    /// Refuses a byte that a READ shows, since another one is known there.
+    fn refuse_byte(&mut self, at: usize, shown: Shown<'_>, byte: Byte) -> Result<u64, Stop> {
+        self.propose_other_sizes(at, shown);
+        let wrote = Wrote {
+            session: shown.session,
+            offset: byte.offset,
+            byte: byte.shown,
+        };
+        self.propose_same(at, Some(wrote));
         let what = What::Byte(byte.offset, byte.known, byte.shown);
         Err(self.clash_at(at, byte.told, what))
     }
 
-    /// Proposes other sizes at the start for a file whose size there is assumed, by what a READ at an offset shows.
-    fn propose_other_sizes(&mut self, at: usize, offset: u64, piece: Piece) -> Result<(), Stop> {
-        if !self.is_guessed(at) {
-            return Ok(());
-        }
-        self.propose_sizes(at, offset, piece)?;
-        self.propose_of(at, Says::Size(offset.saturating_add(piece.len)))
-    }
-
-    /// Whether the size of a file at the start is assumed.
-    fn is_guessed(&self, at: usize) -> bool {
-        match self.entry(at) {
-            Some(entry) => entry.file.is_guessed,
-            None => false,
+    /// Proposes other sizes at the start for a file whose size there is assumed, by what a READ shows.
+    fn propose_other_sizes(&mut self, at: usize, shown: Shown<'_>) {
+        if self.entry(at).file.is_guessed {
+            self.propose_sizes(at, shown);
+            let end = shown.offset.saturating_add(shown.piece.len);
+            self.propose_of(at, Says::Size(end));
         }
     }
 
-    fn compare_zeros(
-        &mut self,
-        at: usize,
-        offset: u64,
-        piece: Piece,
-        len: u64,
-    ) -> Result<u64, Stop> {
-        match first_set(part(self.session, piece.from, len)) {
+    /// Compares so many bytes with the zeros that are there.
+    fn compare_zeros(&mut self, at: usize, shown: Shown<'_>, len: u64) -> Result<u64, Stop> {
+        match first_set(shown.first(len)) {
             None => {
-                self.tell_least(at, offset.saturating_add(len))?;
+                self.tell_least(at, shown.offset.saturating_add(len))?;
                 Ok(len)
             }
             Some((place, byte)) => {
-                if self.revive(at)? && self.can_show(at, offset) {
+                if self.revive(at)? && shown.offset < self.entry(at).file.hole() {
                     return Ok(0);
                 }
                 let byte = Byte {
-                    offset: offset.saturating_add(place as u64),
+                    offset: shown.offset.saturating_add(place as u64),
                     known: 0,
-                    told: self.end_told(at),
+                    told: self.entry(at).file.end_told(),
                     shown: byte,
                 };
-                self.refuse_byte(at, offset, piece, byte)
+                self.refuse_byte(at, shown, byte)
             }
         }
     }
 
-    /// The record that told where the bytes of a file end that may be any.
-    fn end_told(&self, at: usize) -> u64 {
-        match self.entry(at) {
-            Some(entry) if entry.file.sized == 0 => entry.file.most_told,
-            Some(entry) => entry.file.sized,
-            None => 0,
+    /// Takes so many bytes of the start of which nothing was known, and returns how many.
+    fn show(&mut self, at: usize, shown: Shown<'_>, len: u64) -> Result<u64, Stop> {
+        let some = self.some_of_start(at, shown, len);
+        if some == 0 {
+            return Ok(len);
         }
-    }
-
-    /// Whether a byte that the session did not write may be any.
-    fn can_show(&self, at: usize, offset: u64) -> bool {
-        match self.entry(at) {
-            Some(entry) => offset < entry.file.hole(),
-            None => false,
-        }
-    }
-
-    /// Takes bytes of the start of which nothing was known.
-    fn show(&mut self, at: usize, offset: u64, piece: Piece, len: u64) -> Result<(), Stop> {
-        let (least, _) = self.size_now(at);
-        let mut len = len;
-        if offset.saturating_add(len) <= least {
-            // Zeros at the end may be behind the start's end, and then they are no bytes of it.
-            let known = self.old_least(at).saturating_sub(offset);
-            len = len.min(known.max(without_zeros(part(self.session, piece.from, len))));
-        }
-        if len == 0 {
-            return Ok(());
-        }
-        let end = offset.saturating_add(len);
-        let fresh = Piece { len, ..piece };
-        self.tell_least(at, end)?;
-        let told = self.teller;
+        self.tell_least(at, shown.offset.saturating_add(some))?;
         self.take_pieces(1);
-        if let Some(entry) = self.entry_mut(at) {
-            entry.file.shown.put(offset, fresh)?;
-            if entry.file.least < end {
-                entry.file.least = end;
-                entry.file.least_told = told;
-            }
-        }
-        self.require_least(at)
+        self.keep_shown(at, shown, some)?;
+        self.require_least(at)?;
+        Ok(len)
     }
 
-    /// The fewest bytes that a file may have had at the start.
-    fn old_least(&self, at: usize) -> u64 {
-        match self.entry(at) {
-            Some(entry) => entry.file.least,
-            None => 0,
+    /// How many of these bytes the start has for sure: zeros at the end may be behind the start's end, and then they
+    /// are no bytes of it.
+    fn some_of_start(&self, at: usize, shown: Shown<'_>, len: u64) -> u64 {
+        let (least, _) = self.size_now(at);
+        if shown.offset.saturating_add(len) > least {
+            return len;
         }
+        let known = self.entry(at).file.least.saturating_sub(shown.offset);
+        len.min(known.max(without_zeros(shown.first(len))))
+    }
+
+    /// Keeps that a file had so many of these bytes at the start.
+    fn keep_shown(&mut self, at: usize, shown: Shown<'_>, len: u64) -> Result<(), Stop> {
+        let told = self.teller;
+        let fresh = Piece { len, ..shown.piece };
+        let file = &mut self.entry_mut(at).file;
+        file.shown.put(shown.offset, fresh)?;
+        file.be_at_least(shown.offset.saturating_add(len), told);
+        Ok(())
     }
 
     /// Fails if the start would have more bytes than it may have.
     fn require_least(&mut self, at: usize) -> Result<(), Stop> {
-        match self.entry(at) {
-            Some(entry) if entry.file.least > entry.file.most => {
-                let (least, most) = (entry.file.least, entry.file.most);
-                let told = entry.file.most_told;
-                Err(self.clash_at(at, told, What::Size(most, least)))
-            }
-            _ => Ok(()),
+        let file = &self.entry(at).file;
+        let (least, most, told) = (file.least, file.most, file.most_told);
+        if least > most {
+            return Err(self.clash_at(at, told, What::Size(most, least)));
         }
+        Ok(())
     }
 }

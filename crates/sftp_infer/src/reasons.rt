@@ -1,7 +1,7 @@
 //! The reasons to refuse each request, with what they ask of its paths, and how a reason is taken for granted.
 
 use crate::asks::Asks;
-use crate::errors::Stop;
+use crate::errors::{Stop, done};
 use crate::look::{Found, Look};
 use crate::names::Spot;
 use crate::nodes::Sort;
@@ -309,7 +309,7 @@ fn is_below(path: &[u8], top: &[u8]) -> bool {
 /// How often a walk is begun anew, since what it met was told on the way.
 const WALKS: u32 = 8_192;
 
-impl<'a> World<'a> {
+impl World {
     /// Has what is asked of a path be so, where that can be.
     pub(crate) fn grant(&mut self, path: &[u8], follows: bool, asks: Asks) -> Result<(), Stop> {
         for _ in 0..WALKS {
@@ -341,10 +341,7 @@ impl<'a> World<'a> {
                 Ok(())
             }
             Look::Blind(at) => self.grant_target(at, asks),
-            Look::Nothing(_) | Look::NoEntry(_) => {
-                self.retract(spot)?;
-                Ok(())
-            }
+            Look::Nothing(_) | Look::NoEntry(_) => done(self.retract(spot)),
             _ => Ok(()),
         }
     }
@@ -357,10 +354,7 @@ impl<'a> World<'a> {
                 let at = self.tell(spot, Sort::Link)?;
                 self.lead_astray(at)
             }
-            _ => {
-                self.tell(spot, asks.sort())?;
-                Ok(())
-            }
+            _ => done(self.tell(spot, asks.sort())),
         }
     }
 
@@ -376,10 +370,7 @@ impl<'a> World<'a> {
     fn grant_way(&mut self, spot: Spot<'_>, asks: Asks) -> Result<(), Stop> {
         match asks {
             Asks::Lost | Asks::Astray => self.tell_nothing(spot, true),
-            _ => {
-                self.tell(spot, asks.sort_of_way())?;
-                Ok(())
-            }
+            _ => done(self.tell(spot, asks.sort_of_way())),
         }
     }
 

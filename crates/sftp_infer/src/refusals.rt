@@ -81,7 +81,7 @@ impl End {
     }
 }
 
-impl<'a> World<'a> {
+impl World {
     /// Takes a refusal with this code.
     pub(crate) fn refuse(&mut self, ask: &Ask, code: u32) -> Result<(), Stop> {
         if self.is_free(ask, code) {
@@ -143,17 +143,21 @@ impl<'a> World<'a> {
         match ask {
             Ask::Rmdir { path } => Ok(self.end_of(path.as_slice())?.is_root()),
             Ask::Rename { oldpath, newpath } => {
-                let old = self.end_of(oldpath.as_slice())?;
-                let new = self.end_of(newpath.as_slice())?;
-                Ok(old.is_root() || self.is_moved_inside(old, new))
+                self.is_of_two(oldpath.as_slice(), newpath.as_slice(), false)
             }
             Ask::PosixRename { oldpath, newpath } => {
-                let old = self.end_of(oldpath.as_slice())?;
-                let new = self.end_of(newpath.as_slice())?;
-                Ok(old.is_root() || new.is_root() || self.is_moved_inside(old, new))
+                self.is_of_two(oldpath.as_slice(), newpath.as_slice(), true)
             }
             _ => Ok(false),
         }
+    }
+
+    /// The same of two paths, of which the second one may be replaced.
+    fn is_of_two(&self, old: &[u8], new: &[u8], replaces: bool) -> Result<bool, Stop> {
+        let old = self.end_of(old)?;
+        let new = self.end_of(new)?;
+        let is_root = old.is_root() || replaces && new.is_root();
+        Ok(is_root || self.is_moved_inside(old, new))
     }
 
     /// Where a path ends, whose last link is not followed.
@@ -182,10 +186,7 @@ impl<'a> World<'a> {
             if at == above {
                 return true;
             }
-            at = match self.entry(at) {
-                Some(entry) => entry.seat.parent,
-                None => 0,
-            };
+            at = self.entry(at).seat.parent;
         }
         false
     }
@@ -292,7 +293,7 @@ impl<'a> World<'a> {
 
     fn unexplained_at(&mut self, at: usize) -> Result<(), Stop> {
         if !self.is_shown(at) {
-            self.propose_link_astray(at, None)?;
+            self.propose_link_astray(at, None);
         }
         let sort = self.sort(at);
         Err(self.clash_of(at, What::Refused(Some(sort))))

@@ -78,18 +78,18 @@ pub(crate) enum Drawn<'a> {
     TooLarge(Excess),
 }
 
-impl<'a> World<'a> {
-    /// The tree file of what is known of the start.
-    pub(crate) fn draw(&self) -> Result<Drawn<'a>, NoMemory> {
+impl World {
+    /// The tree file of what is known of the start, with the bytes of this session.
+    pub(crate) fn draw<'a>(&self, session: &'a [u8]) -> Result<Drawn<'a>, NoMemory> {
         let Some(rows) = self.rows()? else {
             return Ok(Drawn::TooLarge(Excess::Entries));
         };
-        let drawn = self.draw_rows(rows.as_slice());
+        let drawn = self.draw_rows(session, rows.as_slice());
         drop(rows);
         drawn
     }
 
-    fn draw_rows(&self, rows: &[Listed<'_>]) -> Result<Drawn<'a>, NoMemory> {
+    fn draw_rows<'a>(&self, session: &'a [u8], rows: &[Listed<'_>]) -> Result<Drawn<'a>, NoMemory> {
         let largest = self.largest();
         if largest > most_limits().file_bytes {
             return Ok(Drawn::TooLarge(Excess::File(largest)));
@@ -102,7 +102,7 @@ impl<'a> World<'a> {
         if paths > self.most_of_paths(rows.len()) {
             return Ok(Drawn::TooLarge(Excess::Paths(paths)));
         }
-        let text = self.text_of_rows(rows)?;
+        let text = self.text_of_rows(session, rows)?;
         Ok(Drawn::Text(text, rows.len() as u64))
     }
 
@@ -122,19 +122,14 @@ impl<'a> World<'a> {
         let free = (places as u64)
             .saturating_mul(PATH_BYTES)
             .saturating_add(FREE_BYTES);
-        free.saturating_add(self.session.len() as u64 / 2)
+        free.saturating_add(self.length / 2)
     }
 
     /// How long the target of an entry is, if it has one that is known.
     fn target_length(&self, at: usize) -> usize {
-        match self.entry(at) {
-            Some(
-                Node {
-                    target: Some(target),
-                    ..
-                },
-            ) => target.len(),
-            _ => 0,
+        match self.target(at) {
+            Some(target) => target.len(),
+            None => 0,
         }
     }
 
@@ -207,9 +202,7 @@ impl<'a> World<'a> {
         above: usize,
         waiting: &mut Vec<Listed<'w>>,
     ) -> Result<(), NoMemory> {
-        let Some(directory) = self.entry(at) else {
-            return Ok(());
-        };
+        let directory = self.entry(at);
         if is_in_order(directory) {
             return push_in_order(directory, above, waiting);
         }
@@ -230,8 +223,12 @@ impl<'a> World<'a> {
         Ok(names)
     }
 
-    fn text_of_rows(&self, rows: &[Listed<'_>]) -> Result<TreeText<'a>, NoMemory> {
-        let mut text = TreeText::new(self.alloc, self.session)?;
+    fn text_of_rows<'a>(
+        &self,
+        session: &'a [u8],
+        rows: &[Listed<'_>],
+    ) -> Result<TreeText<'a>, NoMemory> {
+        let mut text = TreeText::new(self.alloc, session)?;
         match self.put_rows(rows, &mut text) {
             Ok(()) => Ok(text),
             Err(error) => {
@@ -241,7 +238,7 @@ impl<'a> World<'a> {
         }
     }
 
-    fn put_rows(&self, rows: &[Listed<'_>], text: &mut TreeText<'a>) -> Result<(), NoMemory> {
+    fn put_rows(&self, rows: &[Listed<'_>], text: &mut TreeText<'_>) -> Result<(), NoMemory> {
         let mut pen = Pen {
             path: Vec::new(self.alloc),
             head: Vec::new(self.alloc),
@@ -256,7 +253,7 @@ impl<'a> World<'a> {
         &self,
         rows: &[Listed<'_>],
         pen: &mut Pen,
-        text: &mut TreeText<'a>,
+        text: &mut TreeText<'_>,
     ) -> Result<(), NoMemory> {
         self.put_start(rows.len(), &mut pen.head)?;
         text.push(pen.head.as_slice())?;
@@ -363,12 +360,9 @@ impl<'a> World<'a> {
     }
 
     fn put_link_row(&self, path: &[u8], at: usize, out: &mut Vec<u8>) -> Result<(), NoMemory> {
-        let Some(link) = self.entry(at) else {
-            return Ok(());
-        };
-        match &link.target {
-            Some(target) => put_target(path, target.as_slice(), out),
-            None => match self.invented(at, link.length) {
+        match self.target(at) {
+            Some(target) => put_target(path, target, out),
+            None => match self.invented(at, self.entry(at).length) {
                 Ok(target) => {
                     let put = put_target(path, target.as_slice(), out);
                     drop(target);
@@ -385,14 +379,7 @@ impl<'a> World<'a> {
             return Err(NoMemory);
         }
         put_file(out, path, &self.owner_of(at, 0o644), &[])?;
-        put_length(out, self.size_at_start(at))
-    }
-
-    fn size_at_start(&self, at: usize) -> u64 {
-        match self.entry(at) {
-            Some(entry) => entry.file.least,
-            None => 0,
-        }
+        put_length(out, self.entry(at).file.least)
     }
 
     /// Appends the bytes of a file behind its first name: those that were shown, and zeros.
@@ -401,11 +388,10 @@ impl<'a> World<'a> {
         at: usize,
         number: u32,
         pen: &Pen,
-        text: &mut TreeText<'a>,
+        text: &mut TreeText<'_>,
     ) -> Result<(), NoMemory> {
-        let is_first = pen.firsts.get(at).copied() == Some(number);
-        match self.entry(at) {
-            Some(entry) if is_first => put_shown(&entry.file, text),
+        match pen.firsts.get(at) {
+            Some(first) if *first == number => put_shown(&self.entry(at).file, text),
             _ => Ok(()),
         }
     }

@@ -2,9 +2,7 @@
 
 /// What an inference is to take for granted.
 #[derive(Clone, Copy)]
-pub struct Settings<'a> {
-    /// The absolute text of the place where relative paths begin, if it is known.
-    pub home: Option<&'a [u8]>,
+pub struct Settings {
     /// Whether the tree gets the highest limits.
     pub is_raised: bool,
     /// Whether replies are judged strictly. If not, attributes that contradict each other are passed by.

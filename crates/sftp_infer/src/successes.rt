@@ -6,6 +6,7 @@ use crate::exchanges::Exchange;
 use crate::handles::Opened;
 use crate::nodes::{Node, Sort};
 use crate::pieces::Piece;
+use crate::reads::Shown;
 use crate::world::World;
 use sftp_wire::{Answer, Ask, Attrs, ByteString, Names, status};
 
@@ -22,6 +23,16 @@ fn number_at(bytes: &[u8], place: usize) -> u64 {
         number = number.saturating_mul(256).saturating_add(u64::from(*byte));
     }
     number
+}
+
+/// The bytes that a record ends with, which ends at this place of the session.
+fn piece_before(end: usize, bytes: &ByteString, told: u64) -> Piece {
+    let len = bytes.as_slice().len();
+    Piece {
+        len: len as u64,
+        from: end.saturating_sub(len),
+        told,
+    }
 }
 
 /// Whether a request follows a last link, or goes by a handle.
@@ -42,9 +53,9 @@ fn blur_opened(nodes: &mut Vec<Node>, opened: Opened) {
     }
 }
 
-impl<'a> World<'a> {
-    /// Takes an exchange.
-    pub(crate) fn take(&mut self, exchange: Exchange<'_>) -> Result<(), Stop> {
+impl World {
+    /// Takes an exchange of this session.
+    pub(crate) fn take(&mut self, session: &[u8], exchange: Exchange<'_>) -> Result<(), Stop> {
         self.asked = exchange.asked;
         self.replied = exchange.replied;
         self.teller = match exchange.answer {
@@ -56,7 +67,11 @@ impl<'a> World<'a> {
         match exchange.answer {
             Answer::Status { code, .. } => self.take_status(exchange, *code),
             Answer::Handle(handle) => self.take_handle(exchange.ask, handle),
-            Answer::Data(bytes) => self.take_data(exchange.ask, bytes, exchange.answer_end),
+            Answer::Data(bytes) => {
+                let (end, told) = (exchange.answer_end, exchange.replied);
+                let piece = piece_before(end, bytes, told);
+                self.take_data(exchange.ask, session, piece)
+            }
             Answer::Name(names) => self.take_names(exchange.ask, names),
             Answer::Attrs(attrs) => self.take_attrs(exchange.ask, attrs),
             Answer::Extended(bytes) => {
@@ -113,7 +128,10 @@ impl<'a> World<'a> {
                 handle,
                 offset,
                 bytes,
-            } => { self.take_written(handle, *offset, bytes, exchange.ask_end) }
+            } => {
+                let piece = piece_before(exchange.ask_end, bytes, exchange.asked);
+                self.take_written(handle, *offset, piece)
+            }
             Ask::Setstat { path, attrs } => self.take_set(path, attrs),
             Ask::Fsetstat { handle, attrs } => match self.handle(handle) {
                 Some(opened) => self.set_attrs(opened.entry, attrs),
@@ -185,19 +203,7 @@ impl<'a> World<'a> {
         self.set_attrs(at, attrs)
     }
 
-    fn take_written(
-        &mut self,
-        handle: &ByteString,
-        offset: u64,
-        bytes: &ByteString,
-        end: usize,
-    ) -> Result<(), Stop> {
-        let len = bytes.as_slice().len();
-        let piece = Piece {
-            len: len as u64,
-            from: end.saturating_sub(len),
-            told: self.asked,
-        };
+    fn take_written(&mut self, handle: &ByteString, offset: u64, piece: Piece) -> Result<(), Stop> {
         match self.handle(handle) {
             Some(opened) => {
                 let appends = opened.flags & 4 != 0;
@@ -207,20 +213,22 @@ impl<'a> World<'a> {
         }
     }
 
-    fn take_data(&mut self, ask: &Ask, bytes: &ByteString, end: usize) -> Result<(), Stop> {
-        let len = bytes.as_slice().len();
-        let piece = Piece {
-            len: len as u64,
-            from: end.saturating_sub(len),
-            told: self.replied,
-        };
+    fn take_data(&mut self, ask: &Ask, session: &[u8], piece: Piece) -> Result<(), Stop> {
         match ask {
             Ask::Read {
                 handle,
                 offset,
                 len,
             } => match self.handle(handle) {
-                Some(opened) => self.read(opened.entry, *offset, u64::from(*len), piece),
+                Some(opened) => {
+                    let offset = *offset;
+                    let shown = Shown {
+                        session,
+                        offset,
+                        piece,
+                    };
+                    self.read(opened.entry, u64::from(*len), shown)
+                }
                 None => Ok(()),
             },
             _ => Ok(()),
@@ -279,7 +287,7 @@ impl<'a> World<'a> {
     /// Refuses the target of what is no link.
     fn refuse_target(&mut self, at: usize, target: &[u8]) -> Result<(), Stop> {
         if !self.is_shown(at) {
-            self.propose_link_to(at, target)?;
+            self.propose_link_to(at, target);
         }
         let known = self.sort(at);
         Err(self.clash_of(at, What::Kind(known, Sort::Link)))
@@ -287,7 +295,7 @@ impl<'a> World<'a> {
 
     /// The contradiction of two targets of a link.
     fn clash_target(&mut self, at: usize, target: &[u8]) -> Result<(), Stop> {
-        self.propose_link_to(at, target)?;
+        self.propose_link_to(at, target);
         let known = match self.target(at) {
             Some(known) => Vec::from_slice(self.alloc, known)?,
             None => Vec::new(self.alloc),
@@ -300,9 +308,7 @@ impl<'a> World<'a> {
     fn set_target(&mut self, at: usize, target: &[u8]) -> Result<(), Stop> {
         let text = Vec::from_slice(self.alloc, target)?;
         self.lead(at, text);
-        if let Some(link) = self.entry_mut(at) {
-            link.is_shown = true;
-        }
+        self.entry_mut(at).is_shown = true;
         Ok(())
     }
 }

@@ -1,7 +1,7 @@
 //! Links whose targets no reply told, and names that nothing mentions.
 
 use crate::errors::{Stop, What};
-use crate::facts::{Fact, Says};
+use crate::facts::Says;
 use crate::files::File;
 use crate::nodes::{Held, Sort};
 use crate::pieces::Known;
@@ -22,71 +22,82 @@ const LETTERS: &[u8] = b"abcdefghijklmnopqrstuvwxyz0123456789";
 /// The longest name that is made up.
 const NAME_LIMIT: u64 = 255;
 
-impl<'a> World<'a> {
+/// A byte that the session may have written at an offset, and the session.
+#[derive(Clone, Copy)]
+pub(crate) struct Wrote<'s> {
+    pub(crate) session: &'s [u8],
+    pub(crate) offset: u64,
+    pub(crate) byte: u8,
+}
+
+/// Whether the session wrote this byte to a file, if one is given.
+fn is_written(file: &File, wrote: Option<Wrote<'_>>) -> bool {
+    let Some(wrote) = wrote else {
+        return true;
+    };
+    match file.written.known(wrote.offset) {
+        Known::Bytes(piece) => wrote.session.get(piece.from) == Some(&wrote.byte),
+        Known::Gap(_) => wrote.byte == 0 && wrote.offset >= file.zeros,
+    }
+}
+
+impl World {
     /// Proposes a fact about an entry of the start, if it is one.
-    pub(crate) fn propose_of(&mut self, at: usize, says: Says) -> Result<(), Stop> {
+    pub(crate) fn propose_of(&mut self, at: usize, says: Says) {
         match self.old_text(at) {
-            Ok(Some(place)) => {
-                let told = self.replied;
-                self.proposals.push(Fact { place, says, told })?;
-                Ok(())
-            }
-            Ok(None) => {
-                drop(says);
-                Ok(())
-            }
-            Err(error) => {
-                drop(says);
-                Err(error)
-            }
+            Some(place) => self.propose_at(place, says),
+            None => drop(says),
         }
     }
 
     /// Proposes that an entry is a link with this target.
-    pub(crate) fn propose_link_to(&mut self, at: usize, target: &[u8]) -> Result<(), Stop> {
-        let target = Vec::from_slice(self.alloc, target)?;
-        self.propose_of(at, Says::Link(target))
+    pub(crate) fn propose_link_to(&mut self, at: usize, target: &[u8]) {
+        if let Some(target) = self.copy(target) {
+            self.propose_of(at, Says::Link(target));
+        }
     }
 
     /// Proposes that an entry is a link of this length to nothing.
-    pub(crate) fn propose_link_astray(
-        &mut self,
-        at: usize,
-        length: Option<u64>,
-    ) -> Result<(), Stop> {
-        let target = self.invented(at, length)?;
-        self.propose_of(at, Says::Link(target))
+    pub(crate) fn propose_link_astray(&mut self, at: usize, length: Option<u64>) {
+        match self.invented(at, length) {
+            Ok(target) => self.propose_of(at, Says::Link(target)),
+            Err(_) => self.lacks_memory = true,
+        }
     }
 
-    /// Where an entry was at the start.
-    pub(crate) fn old_text(&self, at: usize) -> Result<Option<Vec<u8>>, Stop> {
-        match self.entry(at) {
-            Some(entry) if (entry.is_old || entry.is_chosen) && at != 0 => {
-                let name = self.name_at(entry.old_seat);
-                Ok(Some(self.old_place(entry.old_seat.parent, name)?))
+    /// Where an entry was at the start, if it was there; `None` too if memory runs out, which is noted.
+    pub(crate) fn old_text(&mut self, at: usize) -> Option<Vec<u8>> {
+        let entry = self.entry(at);
+        if at == 0 || !(entry.is_old || entry.is_chosen) {
+            return None;
+        }
+        let seat = entry.old_seat;
+        match self.old_place(seat.parent, self.name_at(seat)) {
+            Ok(text) => Some(text),
+            Err(_) => {
+                self.lacks_memory = true;
+                None
             }
-            _ => Ok(None),
         }
     }
 
     /// Proposes that a file of the start is one that the session changed under another name: those first that were
-    /// changed last. If an offset and a byte are given, the session wrote that byte there.
-    pub(crate) fn propose_same(&mut self, at: usize, wrote: Option<(u64, u8)>) -> Result<(), Stop> {
+    /// changed last. If a byte is given, the session wrote that.
+    pub(crate) fn propose_same(&mut self, at: usize, wrote: Option<Wrote<'_>>) {
         let mut before = u64::MAX;
         for _ in 0..SAME {
             self.work = self.work.saturating_add(self.nodes.len() as u64);
             match self.changed_before(at, before, wrote) {
                 Some((other, changed)) => {
                     before = changed;
-                    self.propose_way(at, other)?;
-                    if let Some(place) = self.old_text(other)? {
-                        self.propose_of(at, Says::SameFile(place))?;
+                    self.propose_way(at, other);
+                    if let Some(place) = self.old_text(other) {
+                        self.propose_of(at, Says::SameFile(place));
                     }
                 }
-                None => return Ok(()),
+                None => return,
             }
         }
-        Ok(())
     }
 
     /// The file of the start that the session changed last before a request, but for this one.
@@ -94,15 +105,15 @@ impl<'a> World<'a> {
         &self,
         at: usize,
         before: u64,
-        wrote: Option<(u64, u8)>,
+        wrote: Option<Wrote<'_>>,
     ) -> Option<(usize, u64)> {
         let mut last: Option<(usize, u64)> = None;
         let mut latest: u64 = 0;
         for (other, entry) in self.nodes.iter().enumerate() {
-            let changed = entry.file.last.max(entry.rights.last);
+            let changed = entry.changed();
             let is_start = entry.is_old || entry.is_chosen;
             let is_file = is_start && entry.sort == Sort::File && other != at;
-            if is_file && changed > latest && changed < before && self.wrote(&entry.file, wrote) {
+            if is_file && changed > latest && changed < before && is_written(&entry.file, wrote) {
                 last = Some((other, changed));
                 latest = changed;
             }
@@ -110,25 +121,10 @@ impl<'a> World<'a> {
         last
     }
 
-    /// Whether the session wrote this byte to a file at this offset, if they are given.
-    fn wrote(&self, file: &File, wrote: Option<(u64, u8)>) -> bool {
-        match wrote {
-            Some((offset, byte)) => match file.written.known(offset) {
-                Known::Bytes(piece) => self.session.get(piece.from) == Some(&byte),
-                Known::Gap(_) => byte == 0 && offset >= file.zeros,
-            },
-            None => true,
-        }
-    }
-
     /// The target to assume for a link of the start whose target no reply told: a name beside it that nothing mentions,
     /// of the told length.
     pub(crate) fn invented(&self, at: usize, length: Option<u64>) -> Result<Vec<u8>, Stop> {
-        let parent = match self.entry(at) {
-            Some(link) => link.seat.parent,
-            None => 0,
-        };
-        self.fresh_name(parent, length.unwrap_or(8))
+        self.fresh_name(self.entry(at).seat.parent, length.unwrap_or(8))
     }
 
     /// A name of this length that nothing mentions in a directory.
@@ -137,28 +133,16 @@ impl<'a> World<'a> {
         for number in 0..TRIES {
             name.clear();
             spell(&mut name, number, length.min(NAME_LIMIT).max(1))?;
-            if !self.is_mentioned(parent, name.as_slice()) {
+            if !self.entry(parent).names.contains(name.as_slice()) {
                 return Ok(name);
             }
         }
         Ok(name)
     }
 
-    /// Whether anything told of a name in a directory.
-    fn is_mentioned(&self, parent: usize, name: &[u8]) -> bool {
-        match self.entry(parent) {
-            Some(directory) => directory.names.contains(name),
-            None => false,
-        }
-    }
-
     /// Gives a link whose target is not known one that leads to a name that nothing mentions.
     pub(crate) fn invent_target(&mut self, at: usize) -> Result<(), Stop> {
-        let length = match self.entry(at) {
-            Some(link) => link.length,
-            None => None,
-        };
-        let target = self.invented(at, length)?;
+        let target = self.invented(at, self.entry(at).length)?;
         self.lead_invented(at, target)
     }
 
@@ -166,9 +150,7 @@ impl<'a> World<'a> {
     fn lead_invented(&mut self, at: usize, target: Vec<u8>) -> Result<(), Stop> {
         let noted = self.note_invented(at, target.as_slice());
         self.lead(at, target);
-        if let Some(link) = self.entry_mut(at) {
-            link.is_invented = true;
-        }
+        self.entry_mut(at).is_invented = true;
         noted
     }
 
@@ -186,18 +168,13 @@ impl<'a> World<'a> {
 
     /// Gives a link a target.
     pub(crate) fn lead(&mut self, at: usize, target: Vec<u8>) {
-        match self.entry_mut(at) {
-            Some(link) => drop(std::mem::replace(&mut link.target, Some(target))),
-            None => drop(target),
-        }
+        let link = self.entry_mut(at);
+        drop(std::mem::replace(&mut link.target, Some(target)));
     }
 
     /// Has a link lead to where no directory is.
     pub(crate) fn lead_astray(&mut self, at: usize) -> Result<(), Stop> {
-        let length = match self.entry(at) {
-            Some(link) => link.length.unwrap_or(10),
-            None => 10,
-        };
+        let length = self.entry(at).length.unwrap_or(10);
         let mut target = self.invented(at, Some(length.saturating_sub(2)))?;
         target.extend_from_slice(b"/x")?;
         self.lead_invented(at, target)
@@ -206,21 +183,15 @@ impl<'a> World<'a> {
     /// Takes the length that a reply shows of a link.
     pub(crate) fn tell_length(&mut self, at: usize, length: u64) -> Result<(), Stop> {
         let known = match self.target(at) {
-            Some(target) => Some(target.len() as u64),
-            None => None,
+            Some(target) => target.len() as u64,
+            None => length,
         };
-        match known {
-            Some(known) if known != length => {
-                self.propose_link_astray(at, Some(length))?;
-                Err(self.clash_of(at, What::Size(known, length)))
-            }
-            _ => {
-                if let Some(link) = self.entry_mut(at) {
-                    link.length = Some(length);
-                }
-                Ok(())
-            }
+        if known != length {
+            self.propose_link_astray(at, Some(length));
+            return Err(self.clash_of(at, What::Size(known, length)));
         }
+        self.entry_mut(at).length = Some(length);
+        Ok(())
     }
 
     /// Puts an entry of a fresh name into a directory at the start, so that it is not empty.
@@ -241,9 +212,7 @@ impl<'a> World<'a> {
 
     /// Whether a directory has an entry now, and whether that is known: `None` if it is not.
     pub(crate) fn has_entries(&self, at: usize) -> Option<bool> {
-        let Some(directory) = self.entry(at) else {
-            return Some(false);
-        };
+        let directory = self.entry(at);
         for named in directory.names.each().iter().take(LOOKED_AT) {
             if let Some(Held::Entry(_)) = named.slot.now.or(named.slot.start) {
                 return Some(true);

@@ -1,7 +1,6 @@
 //! What links may lead to that hide behind what a session saw.
 
-use crate::errors::Stop;
-use crate::facts::{Fact, Says};
+use crate::facts::Says;
 use crate::look::cut_last;
 use crate::names::Seat;
 use crate::nodes::Sort;
@@ -34,187 +33,162 @@ fn without_tail<'t>(one: &'t [u8], other: &'t [u8]) -> Option<(&'t [u8], &'t [u8
     if is_cut { Some((one, other)) } else { None }
 }
 
-impl<'a> World<'a> {
+impl World {
     /// Proposes that a directory above one of two files is a link to the one above the other, if both paths end in the
     /// same names.
-    pub(crate) fn propose_way(&mut self, at: usize, other: usize) -> Result<(), Stop> {
-        let Some(one) = self.old_text(at)? else {
-            return Ok(());
+    pub(crate) fn propose_way(&mut self, at: usize, other: usize) {
+        let Some(one) = self.old_text(at) else {
+            return;
         };
-        let Some(like) = self.old_text(other)? else {
+        let Some(like) = self.old_text(other) else {
             drop(one);
-            return Ok(());
+            return;
         };
-        let mut done = Ok(());
         if let Some((left, right)) = without_tail(one.as_slice(), like.as_slice()) {
-            done = self.propose_to(right, left);
-            if done.is_ok() {
-                done = self.propose_to(left, right);
-            }
+            self.propose_to(right, left);
+            self.propose_to(left, right);
         }
         drop(one);
         drop(like);
-        done
     }
 
     /// Proposes that a link to one place is at another one.
-    fn propose_to(&mut self, place: &[u8], target: &[u8]) -> Result<(), Stop> {
+    fn propose_to(&mut self, place: &[u8], target: &[u8]) {
         if place.is_empty() {
-            return Ok(());
+            return;
         }
         let target = if target.is_empty() { b"/" } else { target };
-        let says = Says::Link(Vec::from_slice(self.alloc, target)?);
-        let told = self.replied;
-        match Vec::from_slice(self.alloc, place) {
-            Ok(place) => self.proposals.push(Fact { place, says, told })?,
-            Err(_) => {
-                drop(says);
-                return Err(Stop::NoMemory);
+        if let Some(target) = self.copy(target) {
+            match self.copy(place) {
+                Some(place) => self.propose_at(place, Says::Link(target)),
+                None => drop(target),
             }
         }
-        Ok(())
     }
 
     /// Proposes that an entry is a link of this length to something of its kind, by its path or by its name alone.
-    pub(crate) fn propose_ends(&mut self, at: usize, length: Option<u64>) -> Result<(), Stop> {
+    pub(crate) fn propose_ends(&mut self, at: usize, length: Option<u64>) {
         let Some(length) = length else {
-            return Ok(());
+            return;
         };
         let mut left = ENDS;
         self.work = self.work.saturating_add(self.nodes.len() as u64);
         for other in 0..self.nodes.len() {
             if left > 0 && other != at && self.is_end(other, self.sort(at)) {
-                if self.propose_end(at, other, length)? {
+                if self.propose_end(at, other, length) {
                     left = left.saturating_sub(1);
                 }
             }
         }
-        Ok(())
     }
 
     /// Whether an entry of the start is of this kind.
     fn is_end(&self, at: usize, sort: Sort) -> bool {
-        match self.entry(at) {
-            Some(entry) => entry.is_old && at != 0 && entry.sort == sort,
+        let entry = self.entry(at);
+        entry.is_old && at != 0 && entry.sort == sort
+    }
+
+    /// Proposes that an entry is a link to another one, if a target of that one has this length. Says whether one has.
+    fn propose_end(&mut self, at: usize, other: usize, length: u64) -> bool {
+        match self.end_of_length(at, other, length) {
+            Some(target) => {
+                self.propose_of(at, Says::Link(target));
+                true
+            }
             None => false,
         }
     }
 
-    /// Proposes that an entry is a link to another one, if a target of that one has this length. Says whether one has.
-    fn propose_end(&mut self, at: usize, other: usize, length: u64) -> Result<bool, Stop> {
-        match self.end_of_length(at, other, length)? {
-            Some(target) => {
-                self.propose_of(at, Says::Link(target))?;
-                Ok(true)
-            }
-            None => Ok(false),
-        }
-    }
-
     /// The path of an entry of the start, or its name alone for a link beside it, if it has this length.
-    fn end_of_length(&self, at: usize, other: usize, length: u64) -> Result<Option<Vec<u8>>, Stop> {
-        let Some(text) = self.old_text(other)? else {
-            return Ok(None);
-        };
+    fn end_of_length(&mut self, at: usize, other: usize, length: u64) -> Option<Vec<u8>> {
+        let text = self.old_text(other)?;
         if text.len() as u64 == length {
-            return Ok(Some(text));
+            return Some(text);
         }
         drop(text);
-        match self.name_beside(at, other) {
-            Some(name) if name.len() as u64 == length => {
-                Ok(Some(Vec::from_slice(self.alloc, name)?))
-            }
-            _ => Ok(None),
+        let (beside, seat) = (self.entry(at).old_seat, self.entry(other).old_seat);
+        let is_beside = beside.parent == seat.parent;
+        if is_beside && self.name_at(seat).len() as u64 == length {
+            return self.copy_of_name(seat);
         }
+        None
     }
 
-    /// The name of an entry that was in the directory of another one at the start.
-    fn name_beside(&self, at: usize, other: usize) -> Option<&[u8]> {
-        let (beside, seat) = (self.entry(at)?.old_seat, self.entry(other)?.old_seat);
-        if beside.parent == seat.parent {
-            Some(self.name_at(seat))
-        } else {
-            None
+    /// A copy of the name at a seat; `None` if memory runs out, which is noted.
+    fn copy_of_name(&mut self, seat: Seat) -> Option<Vec<u8>> {
+        match Vec::from_slice(self.alloc, self.name_at(seat)) {
+            Ok(name) => Some(name),
+            Err(_) => {
+                self.lacks_memory = true;
+                None
+            }
         }
     }
 
     /// Proposes other targets for the links whose targets are made up: what this text is the place of, or a name beside
     /// the link.
-    pub(crate) fn propose_targets(&mut self, text: &[u8]) -> Result<(), Stop> {
+    pub(crate) fn propose_targets(&mut self, text: &[u8]) {
         let mut left = LINKS;
         self.work = self.work.saturating_add(self.nodes.len() as u64);
         for at in 0..self.nodes.len() {
             if left > 0 && self.is_invented(at) {
                 left = left.saturating_sub(1);
-                self.propose_target(at, text)?;
+                self.propose_target(at, text);
             }
         }
-        Ok(())
     }
 
     /// Whether an entry is a link of the start whose target is made up.
     fn is_invented(&self, at: usize) -> bool {
-        match self.entry(at) {
-            Some(link) => link.is_old && link.is_invented && link.sort == Sort::Link,
-            None => false,
-        }
+        let link = self.entry(at);
+        link.is_old && link.is_invented && link.sort == Sort::Link
     }
 
-    fn propose_target(&mut self, at: usize, text: &[u8]) -> Result<(), Stop> {
-        let (length, parent) = match self.entry(at) {
-            Some(link) => (link.length, link.old_seat.parent),
-            None => return Ok(()),
-        };
-        self.propose_fitting(at, length, text)?;
-        let above = self.place(parent, &[], true)?;
-        let beside = beside(text, above.as_slice());
-        drop(above);
-        if let Some(name) = beside {
-            self.propose_fitting(at, length, name)?;
+    fn propose_target(&mut self, at: usize, text: &[u8]) {
+        let link = self.entry(at);
+        let (length, parent) = (link.length, link.old_seat.parent);
+        self.propose_fitting(at, length, text);
+        match self.place(parent, &[], true) {
+            Ok(above) => {
+                let beside = beside(text, above.as_slice());
+                drop(above);
+                if let Some(name) = beside {
+                    self.propose_fitting(at, length, name);
+                }
+                self.propose_names(at, parent, length);
+            }
+            Err(_) => self.lacks_memory = true,
         }
-        self.propose_names(at, parent, length)
     }
 
     /// Proposes a target for a link, if that has the link's length.
-    fn propose_fitting(
-        &mut self,
-        at: usize,
-        length: Option<u64>,
-        target: &[u8],
-    ) -> Result<(), Stop> {
+    fn propose_fitting(&mut self, at: usize, length: Option<u64>, target: &[u8]) {
         let count = target.len() as u64;
         if length.unwrap_or(count) == count {
-            self.propose_link_to(at, target)
-        } else {
-            Ok(())
+            self.propose_link_to(at, target);
         }
     }
 
     /// Proposes names of a directory as the target of a link in it, if they have its length.
-    fn propose_names(&mut self, at: usize, parent: usize, length: Option<u64>) -> Result<(), Stop> {
+    fn propose_names(&mut self, at: usize, parent: usize, length: Option<u64>) {
         let Some(length) = length else {
-            return Ok(());
+            return;
         };
         let mut last: Option<usize> = None;
         for _ in 0..BESIDE {
             let Some(place) = self.next_of_length(parent, length, last) else {
-                return Ok(());
+                return;
             };
-            self.propose_seat(at, Seat { parent, place })?;
+            if let Some(target) = self.copy_of_name(Seat { parent, place }) {
+                self.propose_of(at, Says::Link(target));
+            }
             last = Some(place);
         }
-        Ok(())
-    }
-
-    /// Proposes the name at a seat as the target of a link.
-    fn propose_seat(&mut self, at: usize, seat: Seat) -> Result<(), Stop> {
-        let target = Vec::from_slice(self.alloc, self.name_at(seat))?;
-        self.propose_of(at, Says::Link(target))
     }
 
     /// The place of the first name of this length in a directory that comes after the name at another place.
     fn next_of_length(&self, parent: usize, length: u64, last: Option<usize>) -> Option<usize> {
-        let names = &self.entry(parent)?.names;
+        let names = &self.entry(parent).names;
         let before = match last {
             Some(place) => names.name(place),
             None => &[],

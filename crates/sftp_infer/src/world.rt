@@ -1,12 +1,12 @@
 //! The lazy tree: what replies told so far, and what the session made of it.
 
+use crate::choices::Take;
 use crate::errors::{Clash, Stop};
 use crate::facts::{Fact, Says};
 use crate::handles::Handles;
-use crate::names::{Place, Seat, Spot};
+use crate::names::{Seat, Spot};
 use crate::nodes::{Held, Node, Slot, Sort};
 use crate::refusals::Guess;
-use crate::search::Take;
 use crate::settings::Settings;
 use sftp_path::NoMemory;
 use std::alloc::Global;
@@ -19,12 +19,16 @@ const PIECE_BYTES: u64 = 40;
 
 /// What is known in the middle of a pass.
 #[derive(Drop)]
-pub(crate) struct World<'a> {
+pub(crate) struct World {
     pub(crate) alloc: Global,
-    pub(crate) session: &'a [u8],
-    pub(crate) settings: Settings<'a>,
+    /// How many bytes the session has.
+    pub(crate) length: u64,
+    pub(crate) settings: Settings,
     /// The entries; the first one is the root.
     pub(crate) nodes: Vec<Node>,
+    /// What would be the entry of a number that none has, and what would be known of the name at such a seat.
+    other: Node,
+    other_slot: Slot,
     pub(crate) home: Vec<u8>,
     pub(crate) handles: Handles,
     /// Who owns what is made, and the record that told it.
@@ -64,19 +68,21 @@ pub(crate) struct World<'a> {
     pub(crate) replied: u64,
     /// The one of them that says what the exchange tells: the reply if it has more than a code or a handle.
     pub(crate) teller: u64,
+    /// Whether memory ran out for a proposal: the exchange at hand ends the pass.
+    pub(crate) lacks_memory: bool,
     /// The steps of the pass, and how many bytes of memory its facts take, about.
     pub(crate) work: u64,
     pub(crate) taken: u64,
 }
 
-impl<'a> World<'a> {
+impl World {
     /// A tree of which nothing is known but its root.
     pub(crate) fn new(
         alloc: Global,
-        session: &'a [u8],
-        settings: Settings<'a>,
+        length: u64,
+        settings: Settings,
         home: &[u8],
-    ) -> Result<World<'a>, NoMemory> {
+    ) -> Result<World, NoMemory> {
         let mut nodes = Vec::new(alloc);
         let seat = Seat {
             parent: 0,
@@ -86,9 +92,11 @@ impl<'a> World<'a> {
         let home = Vec::from_slice(alloc, home)?;
         Ok(World {
             alloc,
-            session,
+            length,
             settings,
             nodes,
+            other: Node::old(alloc, Sort::Unknown, 0, seat),
+            other_slot: Slot::unknown(),
             home,
             handles: Handles::new(alloc),
             owner: None,
@@ -112,9 +120,29 @@ impl<'a> World<'a> {
             asked: 0,
             replied: 0,
             teller: 0,
+            lacks_memory: false,
             work: 0,
             taken: 0,
         })
+    }
+
+    /// What came of a step: that memory ran out, if it did on the way.
+    pub(crate) fn checked(&self, step: Result<(), Stop>) -> Result<(), Stop> {
+        if self.lacks_memory {
+            return Err(Stop::NoMemory);
+        }
+        step
+    }
+
+    /// A copy of a text; `None` if memory runs out, which is noted.
+    pub(crate) fn copy(&mut self, text: &[u8]) -> Option<Vec<u8>> {
+        match Vec::from_slice(self.alloc, text) {
+            Ok(copy) => Some(copy),
+            Err(_) => {
+                self.lacks_memory = true;
+                None
+            }
+        }
     }
 
     /// Adds the components that a walk looked at to the work of the pass. Those of usual paths are no work of their
@@ -129,47 +157,45 @@ impl<'a> World<'a> {
         self.taken = self.taken.saturating_add(bytes);
     }
 
-    pub(crate) fn entry(&self, at: usize) -> Option<&Node> {
-        self.nodes.get(at)
+    /// The entry with this number.
+    pub(crate) fn entry(&self, at: usize) -> &Node {
+        match self.nodes.get(at) {
+            Some(entry) => entry,
+            None => &self.other,
+        }
     }
 
-    pub(crate) fn entry_mut(&mut self, at: usize) -> Option<&mut Node> {
-        self.nodes.get_mut(at)
+    /// The same, to be changed.
+    pub(crate) fn entry_mut(&mut self, at: usize) -> &mut Node {
+        match self.nodes.get_mut(at) {
+            Some(entry) => entry,
+            None => &mut self.other,
+        }
     }
 
     /// The kind of an entry.
     pub(crate) fn sort(&self, at: usize) -> Sort {
-        match self.entry(at) {
-            Some(entry) => entry.sort,
-            None => Sort::Unknown,
-        }
+        self.entry(at).sort
     }
 
     /// The record that told of an entry.
     pub(crate) fn told(&self, at: usize) -> u64 {
-        match self.entry(at) {
-            Some(entry) => entry.told,
-            None => 0,
-        }
+        self.entry(at).told
     }
 
     /// Sets the kind of an entry that was of no known kind.
     pub(crate) fn set_sort(&mut self, at: usize, sort: Sort) {
         let told = self.teller;
-        if let Some(entry) = self.entry_mut(at) {
-            if entry.sort == Sort::Unknown {
-                entry.sort = sort;
-                entry.told = told;
-            }
+        let entry = self.entry_mut(at);
+        if entry.sort == Sort::Unknown {
+            entry.sort = sort;
+            entry.told = told;
         }
     }
 
     /// Looks for a name in a directory.
     pub(crate) fn spot<'n>(&self, parent: usize, name: &'n [u8]) -> Spot<'n> {
-        let found = match self.entry(parent) {
-            Some(entry) => entry.names.find(name),
-            None => Place::NotSought,
-        };
+        let found = self.entry(parent).names.find(name);
         Spot {
             parent,
             name,
@@ -179,31 +205,22 @@ impl<'a> World<'a> {
 
     /// What is known of a name in a directory.
     pub(crate) fn slot(&self, spot: Spot<'_>) -> Slot {
-        match self.entry(spot.parent) {
-            Some(entry) => match entry.names.get(spot) {
-                Some(slot) => *slot,
-                None => Slot::unknown(),
-            },
+        match self.entry(spot.parent).names.get(spot) {
+            Some(slot) => *slot,
             None => Slot::unknown(),
         }
     }
 
-    /// The same, to be changed; `None` if there is no such directory.
-    pub(crate) fn slot_mut(&mut self, spot: Spot<'_>) -> Result<Option<&mut Slot>, Stop> {
-        let alloc = self.alloc;
-        match self.entry_mut(spot.parent) {
-            Some(entry) => entry.names.slot_mut(alloc, spot),
-            None => Ok(None),
-        }
+    /// The same, to be changed. The name is added if it is not there.
+    pub(crate) fn slot_mut(&mut self, spot: Spot<'_>) -> Result<&mut Slot, Stop> {
+        let seat = self.seat(spot)?;
+        Ok(self.slot_at(seat))
     }
 
     /// Where the name of a spot is, which is added if it is not there.
     fn seat(&mut self, spot: Spot<'_>) -> Result<Seat, Stop> {
         let alloc = self.alloc;
-        let place = match self.entry_mut(spot.parent) {
-            Some(entry) => entry.names.seat(alloc, spot)?,
-            None => 0,
-        };
+        let place = self.entry_mut(spot.parent).names.seat(alloc, spot)?;
         Ok(Seat {
             parent: spot.parent,
             place,
@@ -211,10 +228,13 @@ impl<'a> World<'a> {
     }
 
     /// What is known of the name at a seat, to be changed.
-    fn slot_at(&mut self, seat: Seat) -> Option<&mut Slot> {
-        match self.entry_mut(seat.parent) {
-            Some(entry) => entry.names.slot_at(seat.place),
-            None => None,
+    fn slot_at(&mut self, seat: Seat) -> &mut Slot {
+        match self.nodes.get_mut(seat.parent) {
+            Some(entry) => match entry.names.slot_at(seat.place) {
+                Some(slot) => slot,
+                None => &mut self.other_slot,
+            },
+            None => &mut self.other_slot,
         }
     }
 
@@ -222,10 +242,7 @@ impl<'a> World<'a> {
     fn store(&mut self, sort: Sort, seat: Seat) -> Result<usize, Stop> {
         let entry = Node::old(self.alloc, sort, self.teller, seat);
         if let Some(at) = self.spare.pop() {
-            match self.entry_mut(at) {
-                Some(place) => drop(std::mem::replace(place, entry)),
-                None => drop(entry),
-            }
+            drop(std::mem::replace(self.entry_mut(at), entry));
             return Ok(at);
         }
         let at = self.nodes.len();
@@ -238,10 +255,9 @@ impl<'a> World<'a> {
         let seat = self.seat(spot)?;
         let at = self.store(sort, seat)?;
         let told = self.teller;
-        if let Some(slot) = self.slot_at(seat) {
-            slot.start = Some(Held::Entry(at));
-            slot.told = told;
-        }
+        let slot = self.slot_at(seat);
+        slot.start = Some(Held::Entry(at));
+        slot.told = told;
         Ok(at)
     }
 
@@ -250,9 +266,7 @@ impl<'a> World<'a> {
         let seat = self.seat(spot)?;
         let at = self.store(sort, seat)?;
         let told = self.teller;
-        if let Some(entry) = self.entry_mut(at) {
-            entry.be_new(told);
-        }
+        self.entry_mut(at).be_new(told);
         self.change_at(seat, Held::Entry(at));
         Ok(at)
     }
@@ -261,30 +275,26 @@ impl<'a> World<'a> {
     pub(crate) fn seat_entry(&mut self, at: usize, spot: Spot<'_>) -> Result<(), Stop> {
         let seat = self.seat(spot)?;
         self.change_at(seat, Held::Entry(at));
-        if let Some(entry) = self.entry_mut(at) {
-            entry.seat = seat;
-        }
+        self.entry_mut(at).seat = seat;
         Ok(())
     }
 
     /// Has the name at a seat lead to something from now on.
     fn change_at(&mut self, seat: Seat, held: Held) {
         let changed = self.asked;
-        if let Some(slot) = self.slot_at(seat) {
-            slot.now = Some(held);
-            slot.changed = changed;
-        }
+        let slot = self.slot_at(seat);
+        slot.now = Some(held);
+        slot.changed = changed;
     }
 
     /// Tells that the start has nothing at a name of which nothing is known.
     pub(crate) fn tell_nothing(&mut self, spot: Spot<'_>, is_assumed: bool) -> Result<(), Stop> {
         let told = self.teller;
-        if let Some(slot) = self.slot_mut(spot)? {
-            if slot.start.is_none() {
-                slot.start = Some(Held::Nothing);
-                slot.told = told;
-                slot.is_assumed = is_assumed;
-            }
+        let slot = self.slot_mut(spot)?;
+        if slot.start.is_none() {
+            slot.start = Some(Held::Nothing);
+            slot.told = told;
+            slot.is_assumed = is_assumed;
         }
         Ok(())
     }
@@ -304,9 +314,7 @@ impl<'a> World<'a> {
         if !slot.is_assumed || slot.now.is_some() {
             return Ok(None);
         }
-        if let Some(slot) = self.slot_mut(spot)? {
-            slot.is_assumed = false;
-        }
+        self.slot_mut(spot)?.is_assumed = false;
         self.learn(spot.parent, spot.name, Says::There)?;
         Ok(Some(self.tell(spot, Sort::Unknown)?))
     }

@@ -57,14 +57,10 @@ fn loses_transcript<R: System>(rt: &R, options: &InferOptions<'_>) -> bool {
 }
 
 /// What a search takes for granted by these options, of a session of so many bytes.
-fn settings_of<'s>(options: &InferOptions<'s>, length: usize) -> Settings<'s> {
+fn settings_of(options: &InferOptions<'_>, length: usize) -> Settings {
     let profile = options.profile.unwrap_or(Profile::strict());
     let passes = options.passes.unwrap_or(u64::from(PASSES));
     Settings {
-        home: match options.home {
-            Some(home) => Some(home.as_bytes()),
-            None => None,
-        },
         is_raised: options.is_raised,
         is_strict: options.profile.is_none(),
         any_code: profile.codes,
@@ -93,13 +89,12 @@ fn infer_from<'a, R: System, O: Write, E: Write>(
 ) -> Result<Ending, Failure<'a>>
     ensures { IsAuditStatus result }
 {
-    let home = options.home;
-    let mut settings = settings_of(options, session.len());
-    settings.home = match home {
+    let home = match options.home {
         Some(home) => Some(home.as_bytes()),
         None => None,
     };
-    let mut search = Search::new(rt.alloc(), session, settings)?;
+    let settings = settings_of(options, session.len());
+    let mut search = Search::new(rt.alloc(), session, home, settings)?;
     let how = Judging {
         alloc: rt.alloc(),
         by: options.profile,
