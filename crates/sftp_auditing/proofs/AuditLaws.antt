@@ -1,5 +1,5 @@
 -- From what an audit of a stream says to what the program says.
-use Rattle.std.proofs.Common.{◌≡◌, ℕ, Bool, true, false, List, [], Option, Some, None, Result, Ok, Err, refl, sym}
+use Rattle.std.proofs.Common.{◌≡◌, ℕ, Bool, true, false, List, Option, Some, None, Result, Ok, Err, refl, sym}
 use Rattle.std.proofs.Common.{subst}
 use Rattle.std.specs.Result.{IfOk, IfErr}
 use Rattle.sftp_tree.specs.Tree.{Tree}

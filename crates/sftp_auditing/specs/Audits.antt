@@ -18,7 +18,7 @@ use Rattle.sftp_transcript.specs.declared.events.Event.{Event}
 use Rattle.sftp_audit.specs.declared.cuts.EndedCut.{EndedCut}
 use Rattle.sftp_audit.specs.declared.trees.Ended.{Ended}
 use Rattle.sftp_audit.specs.Exchanges.{recorded_exchanges}
-use Rattle.sftp_audit.specs.Audit.{Accounts, AccountsBy, IsFirstFault, IsFirstFaultBy, IsNoJudgement, request_count}
+use Rattle.sftp_audit.specs.Audit.{Accounts, IsFirstFault, IsFirstFaultBy, IsNoJudgement, request_count}
 use Rattle.sftp_audit.specs.Cuts.{AccountsCut, AccountsCutBy, unanswered_count, unsettled_count}
 use Rattle.sftp_files.specs.declared.messages.Ending.TheVariants as endings
 use Rattle.sftp_verdicts.specs.Verdicts.{AccountOf, HasRun, AccountsUnder}

@@ -1,5 +1,5 @@
 -- What is promised of a tree that was inferred from a session.
-use Rattle.std.specs.Prelude.{◌≡◌, ℕ, List, Option, Result, IfOk}
+use Rattle.std.specs.Prelude.{ℕ, List, Result, IfOk}
 use Rattle.sftp_audit.specs.declared.errors.AuditError.{AuditError}
 use Rattle.sftp_infer.specs.Texts.{bytes_of}
 use Rattle.sftp_inferring.specs.declared.inferences.Ended.{Ended}

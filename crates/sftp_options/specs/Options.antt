@@ -1,5 +1,5 @@
 -- What the command line gives for an option.
-use Rattle.std.specs.Prelude.{ℕ, ◌≤◌, Bool, List, length, Option, unwrap_or, find, bytes_eq, slice_get}
+use Rattle.std.specs.Prelude.{ℕ, Bool, List, Option, unwrap_or, find, bytes_eq, slice_get}
 use Rattle.std.specs.Prelude.{option_and_then, codes, ◌||◌, true, false, not, if◌then◌else◌, [], ◌∷◌, Some, None}
 use Rattle.std.specs.Prelude.{is_some}
 use Rattle.std.specs.Prelude.{◌≡◌, ◌⊎◌}
