@@ -128,15 +128,25 @@ const PAIRS: [(&[u8], &[u8]); 3] = [
 fn replies(alloc: Global, pairing: &mut Pairing, session: &mut Session<SlabTable>) -> Vec<Reply> {
     let mut replies = Vec::new(alloc);
     for asked in ASKED {
-        let is_kept = match exchanged(alloc, pairing, session, asked) {
-            Some(reply) => replies.push(reply).is_ok(),
-            None => false,
-        };
-        if !is_kept {
+        let reply = exchanged(alloc, pairing, session, asked);
+        if !keeps(&mut replies, reply) {
             break;
         }
     }
     replies
+}
+
+/// Adds a reply, if there is one and memory for it.
+fn keeps(replies: &mut Vec<Reply>, reply: Option<Reply>) -> bool {
+    match reply {
+        Some(reply) => {
+            let pushed = replies.push(reply);
+            let is_kept = pushed.is_ok();
+            drop(pushed);
+            is_kept
+        }
+        None => false,
+    }
 }
 
 /// Whether a packet has these bytes.

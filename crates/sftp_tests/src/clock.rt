@@ -55,32 +55,40 @@ fn lstat(
     ask(clocked, session, Ask::Lstat { path })
 }
 
+fn mkdir(
+    alloc: Global,
+    clocked: &mut Clocked<Ticking>,
+    session: &mut Session<SlabTable>,
+    path: &[u8],
+) -> Result<Option<(u32, u32)>, NoMemory> {
+    let path = ByteString::from_slice(alloc, path)?;
+    let attrs = attributes(None);
+    ask(clocked, session, Ask::Mkdir { path, attrs })
+}
+
 /// What the root and `/d` show before and after `/d` was made.
+fn around_mkdir(
+    alloc: Global,
+    clocked: &mut Clocked<Ticking>,
+    session: &mut Session<SlabTable>,
+) -> Result<[Option<(u32, u32)>; 4], NoMemory> {
+    let root = lstat(alloc, clocked, session, b"/")?;
+    let absent = lstat(alloc, clocked, session, b"/d")?;
+    mkdir(alloc, clocked, session, b"/d")?;
+    let modified = lstat(alloc, clocked, session, b"/")?;
+    let made = lstat(alloc, clocked, session, b"/d")?;
+    Ok([root, absent, modified, made])
+}
+
+/// The same, by a clock that begins at 10.
 fn by_the_clock(
     alloc: Global,
     session: &mut Session<SlabTable>,
 ) -> Result<[Option<(u32, u32)>; 4], NoMemory> {
     let mut clocked = Clocked::new(alloc, Ticking(10), TimeTable::new(alloc));
-    let before = [
-        lstat(alloc, &mut clocked, session, b"/")?,
-        lstat(alloc, &mut clocked, session, b"/d")?,
-    ];
-    let path = ByteString::from_slice(alloc, b"/d")?;
-    ask(
-        &mut clocked,
-        session,
-        Ask::Mkdir {
-            path,
-            attrs: attributes(None),
-        },
-    )?;
-    let [root, absent] = before;
-    Ok([
-        root,
-        absent,
-        lstat(alloc, &mut clocked, session, b"/")?,
-        lstat(alloc, &mut clocked, session, b"/d")?,
-    ])
+    let shown = around_mkdir(alloc, &mut clocked, session);
+    drop(clocked);
+    shown
 }
 
 /// At the start all have the time of then. What is made has the time of when it was made, and the directory above it is

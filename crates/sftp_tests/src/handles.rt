@@ -143,8 +143,8 @@ fn names_of_slots(rt: HostRuntime) -> Result<(), Fail> {
     let newest = gives_back_the_newest(rt.alloc(), &mut table);
     let reserved = puts_reserved(rt.alloc(), &mut table);
     drop(table);
-    assert!(rt; counted && freed, "{counted} {freed}");
-    assert!(rt; last && newest && reserved, "{last} {newest} {reserved}");
+    let told = [counted, freed, last, newest, reserved];
+    assert!(rt; told == [true; 5], "{told:?}");
     Ok(())
 }
 

@@ -121,7 +121,12 @@ fn act(alloc: Global, step: Step) -> Result<Act, NoMemory> {
 /// Adds an act, unless memory runs out.
 fn adds(alloc: Global, acts: &mut Vec<Act>, step: Step) -> bool {
     match act(alloc, step) {
-        Ok(act) => acts.push(act).is_ok(),
+        Ok(act) => {
+            let pushed = acts.push(act);
+            let is_added = pushed.is_ok();
+            drop(pushed);
+            is_added
+        }
         Err(_) => false,
     }
 }

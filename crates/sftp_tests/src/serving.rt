@@ -20,6 +20,9 @@ const INIT: &[u8] = b"\0\0\0\x05\x01\0\0\0\x03";
 /// MKDIR of `/a` with the id 1.
 const MKDIR: &[u8] = b"\0\0\0\x0f\x0e\0\0\0\x01\0\0\0\x02/a\0\0\0\0";
 
+/// INIT and MKDIR: 28 bytes.
+const INPUT: &[u8] = b"\0\0\0\x05\x01\0\0\0\x03\0\0\0\x0f\x0e\0\0\0\x01\0\0\0\x02/a\0\0\0\0";
+
 /// The server's VERSION.
 pub(crate) const VERSION: &[u8] = b"\0\0\0\x78\x02\0\0\0\x03\
 \0\0\0\x18posix-rename@openssh.com\0\0\0\x011\
@@ -128,18 +131,20 @@ fn is_served(alloc: Global, session: &Session) -> bool {
     let accepted = audit(alloc, BLANK, session.record.as_slice());
     let is_accepted = matches!(&accepted, Ok(accepted) if accepted.requests == 1);
     drop(accepted);
-    let (version, done) = session
-        .replies
-        .as_slice()
-        .split_at(VERSION.len().min(session.replies.len()));
-    end_of(&session.ended) == End::Finished && is_accepted && version == VERSION && done == DONE
+    end_of(&session.ended) == End::Finished
+        && is_accepted
+        && are_replies(session.replies.as_slice())
+}
+
+/// Whether these are the replies to INIT and MKDIR.
+fn are_replies(replies: &[u8]) -> bool {
+    let (version, done) = replies.split_at(VERSION.len().min(replies.len()));
+    version == VERSION && done == DONE
 }
 
 #[test]
 fn serves_memory(rt: HostRuntime) -> Result<(), Fail> {
-    let mut sent = Vec::from_slice(rt.alloc(), INIT)?;
-    sent.extend_from_slice(MKDIR)?;
-    let served = serve_bytes(rt.alloc(), Tree::blank(rt.alloc())?, sent.as_slice())?;
+    let served = serve_bytes(rt.alloc(), Tree::blank(rt.alloc())?, INPUT)?;
     let is_served = is_served(rt.alloc(), &served);
     drop(served);
     assert!(rt; is_served);

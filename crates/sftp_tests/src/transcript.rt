@@ -5,7 +5,7 @@ mod writing;
 
 use crate::streams::{Input, Room};
 use sftp_transcript::{Failed, Memory, Sink, Source, Tally};
-use std::test::Fail;
+use std::alloc::Global;
 
 /// The opening, INIT and VERSION, MKDIR of `/a` with the id 1 as the third record, and STATUS 0 as the fourth: 28, 20
 /// and 22 bytes.
@@ -54,13 +54,22 @@ fn counts_failed_reads(rt: HostRuntime) {
     }
 }
 
+/// What three writes to a sink with room for one byte give, and how many failed.
+fn three_writes(alloc: Global, fails: bool) -> ([Result<usize, Failed>; 3], u64) {
+    let mut narrow = Tally::new(Room::of(alloc, 1, 1, fails));
+    let written = [narrow.write(b""), narrow.write(b"ab"), narrow.write(b"b")];
+    let failures = Sink::failures(&narrow);
+    drop(narrow);
+    (written, failures)
+}
+
 #[test]
 fn counts_failed_writes(rt: HostRuntime) {
     for fails in [true, false] {
-        let mut narrow = Tally::new(Room::of(rt.alloc(), 1, 1, fails));
-        assert!(rt; narrow.write(b"") == Ok(0), "{fails}");
-        assert!(rt; narrow.write(b"ab") == Ok(1), "{fails}");
-        assert!(rt; narrow.write(b"b") == Err(Failed), "{fails}");
-        assert!(rt; Sink::failures(&narrow) == 1, "{fails}");
+        let (written, failures) = three_writes(rt.alloc(), fails);
+        assert!(rt;
+            written == [Ok(0), Ok(1), Err(Failed)] && failures == 1,
+            "{fails}"
+        );
     }
 }

@@ -1,13 +1,12 @@
 //! Sessions that are served from memory in given pieces, with the audit of what was logged. The bytes are worked out by
 //! hand.
-use super::{DONE, INIT, MKDIR, VERSION};
+use super::{INPUT, are_replies};
 use crate::audit::{BLANK, WITH_A};
 use crate::audited::{AuditedSession, serve_and_audit};
 use crate::pieces::Pieces;
 use sftp_server::{Ended, Shuffle};
 use sftp_transcript::Tally;
 use std::alloc::Global;
-use std::test::Fail;
 
 /// Whether the auditor accepts so many requests, with this tree file, which is that of the tree reported.
 fn is_accepted(session: &AuditedSession, requests: u64, file: &[u8]) -> bool {
@@ -28,47 +27,27 @@ fn is_accepted(session: &AuditedSession, requests: u64, file: &[u8]) -> bool {
 }
 
 /// Whether INIT and MKDIR of `/a` on the blank tree, in pieces of these sizes, are answered and accepted.
-fn agrees(alloc: Global, sizes: &[usize]) -> Result<bool, Fail> {
-    let mut sent = Vec::from_slice(alloc, INIT)?;
-    sent.extend_from_slice(MKDIR)?;
-    let mut reader = Pieces::new(sent.as_slice(), sizes);
+fn agrees(alloc: Global, sizes: &[usize]) -> bool {
+    let mut reader = Pieces::new(INPUT, sizes);
     let mut writer = Tally::new(Vec::new(alloc));
     let served = serve_and_audit(alloc, BLANK, &mut reader, &mut writer, &mut Shuffle(1));
-    let replies = writer.into_inner();
     let accepted = match &served {
         Ok(session) => is_accepted(session, 1, WITH_A),
         Err(_) => false,
     };
     drop(served);
-    let (version, done) = replies
-        .as_slice()
-        .split_at(VERSION.len().min(replies.len()));
-    Ok(accepted && version == VERSION && done == DONE)
+    let replies = writer.into_inner();
+    let answered = are_replies(replies.as_slice());
+    drop(replies);
+    accepted && answered
 }
 
 /// Pieces that end between packets, within the length of one, within its fields, and after each byte; and all at once.
 const SIZES: &[&[usize]] = &[&[], &[9], &[2, 5, 3, 8, 1], &[0, 100], &[1; 28]];
 
 #[test]
-fn sessions_in_pieces_are_accepted(rt: HostRuntime) -> Result<(), Fail> {
+fn sessions_in_pieces_are_accepted(rt: HostRuntime) {
     for sizes in SIZES {
-        assert!(rt; agrees(rt.alloc(), sizes)?, "{sizes:?}");
+        assert!(rt; agrees(rt.alloc(), sizes), "{sizes:?}");
     }
-    Ok(())
-}
-
-/// Nothing is logged of a client that sends no INIT, and a tree file that is none is not served.
-#[test]
-fn nothing_is_accepted_unopened(rt: HostRuntime) -> Result<(), Fail> {
-    let mut reader = Pieces::new(MKDIR, &[]);
-    let mut writer = Tally::new(Vec::new(rt.alloc()));
-    let served = serve_and_audit(rt.alloc(), BLANK, &mut reader, &mut writer, &mut Shuffle(1));
-    let is_empty = match &served {
-        Ok(session) => session.log.is_empty() && matches!(session.ended, Ended::Fault(_, _)),
-        Err(_) => false,
-    };
-    drop(served);
-    let replies = writer.into_inner();
-    assert!(rt; is_empty && replies.is_empty());
-    Ok(())
 }

@@ -1,15 +1,12 @@
 //! Sessions of which one stream fails, at each place: what was written and logged until then, and the tree left.
-use super::{DONE, End, INIT, MKDIR, Outcome, VERSION, session};
+use super::{DONE, End, INIT, INPUT, MKDIR, Outcome, VERSION, session};
 use crate::audit::{BLANK, WITH_A};
 use crate::streams::{Input, Room};
 use sftp_server::{InOrder, Stream};
 use std::alloc::Global;
 use std::test::Fail;
 
-/// INIT and MKDIR: 28 bytes.
-const INPUT: &[u8] = b"\0\0\0\x05\x01\0\0\0\x03\0\0\0\x0f\x0e\0\0\0\x01\0\0\0\x02/a\0\0\0\0";
-
-/// The same, and a packet that cannot be read.
+/// INIT, MKDIR, and a packet that cannot be read.
 const FAULTY: &[u8] =
     b"\0\0\0\x05\x01\0\0\0\x03\0\0\0\x0f\x0e\0\0\0\x01\0\0\0\x02/a\0\0\0\0\0\0\0\0";
 
@@ -54,9 +51,23 @@ fn ends(outcome: &Outcome, end: End, written: usize, logged: usize) -> bool {
         && outcome.tree.as_slice() == left(end, logged)
 }
 
-/// The session of this input with these writers.
-fn over(alloc: Global, input: Input, output: Room, log: Room) -> Result<Outcome, Fail> {
-    session(alloc, input, output, log, &mut InOrder)
+/// Whether the session of this input with these writers ended so, with so many bytes written and logged.
+fn ends_over(
+    alloc: Global,
+    input: Input,
+    output: Room,
+    log: Room,
+    end: (End, usize, usize),
+) -> Result<bool, Fail> {
+    match session(alloc, input, output, log, &mut InOrder) {
+        Ok(outcome) => {
+            let (end, written, logged) = end;
+            let ended = ends(&outcome, end, written, logged);
+            drop(outcome);
+            Ok(ended)
+        }
+        Err(error) => Err(error),
+    }
 }
 
 #[test]
@@ -69,17 +80,26 @@ fn reader_fails(rt: HostRuntime) -> Result<(), Fail> {
             _ => (145, 185),
         };
         let torn = Input::whole(INPUT.get(..count).unwrap_or(INPUT), true);
-        let outcome = over(alloc, torn, Room::ample(alloc), Room::ample(alloc))?;
-        assert!(rt; ends(&outcome, READER, written, logged), "{count}");
+        let (output, log) = (Room::ample(alloc), Room::ample(alloc));
+        assert!(rt;
+            ends_over(alloc, torn, output, log, (READER, written, logged))?,
+            "{count}"
+        );
     }
     Ok(())
 }
 
-/// The session with a writer and a log that have room for so many bytes and take so many a call.
-fn narrow(alloc: Global, writer: usize, log: usize, size: usize) -> Result<Outcome, Fail> {
+/// Whether the session with a writer and a log that have room for so many bytes and take so many a call ends so.
+fn ends_narrow(
+    alloc: Global,
+    writer: usize,
+    log: usize,
+    size: usize,
+    end: (End, usize, usize),
+) -> Result<bool, Fail> {
     let output = Room::of(alloc, writer, size, true);
     let record = Room::of(alloc, log, size, true);
-    over(alloc, Input::whole(INPUT, false), output, record)
+    ends_over(alloc, Input::whole(INPUT, false), output, record, end)
 }
 
 #[test]
@@ -91,8 +111,8 @@ fn writer_fails(rt: HostRuntime) -> Result<(), Fail> {
             _ => (End::Finished, 185),
         };
         for size in [usize::MAX, 1] {
-            let outcome = narrow(rt.alloc(), count, usize::MAX, size)?;
-            assert!(rt; ends(&outcome, end, count, logged), "{count} {size}");
+            let ended = ends_narrow(rt.alloc(), count, usize::MAX, size, (end, count, logged))?;
+            assert!(rt; ended, "{count} {size}");
         }
     }
     Ok(())
@@ -108,8 +128,8 @@ fn log_fails(rt: HostRuntime) -> Result<(), Fail> {
             _ => (End::Finished, 145),
         };
         for size in [usize::MAX, 1] {
-            let outcome = narrow(rt.alloc(), usize::MAX, count, size)?;
-            assert!(rt; ends(&outcome, end, written, count), "{count} {size}");
+            let ended = ends_narrow(rt.alloc(), usize::MAX, count, size, (end, written, count))?;
+            assert!(rt; ended, "{count} {size}");
         }
     }
     Ok(())
@@ -119,11 +139,11 @@ fn log_fails(rt: HostRuntime) -> Result<(), Fail> {
 fn streams_take_nothing(rt: HostRuntime) -> Result<(), Fail> {
     let alloc = rt.alloc();
     let full = Room::of(alloc, 127, usize::MAX, false);
-    let outcome = over(alloc, Input::whole(INPUT, false), full, Room::ample(alloc))?;
-    assert!(rt; ends(&outcome, WRITER, 127, 163));
+    let input = Input::whole(INPUT, false);
+    assert!(rt; ends_over(alloc, input, full, Room::ample(alloc), (WRITER, 127, 163))?);
     let full = Room::of(alloc, 100, usize::MAX, false);
-    let outcome = over(alloc, Input::whole(INPUT, false), Room::ample(alloc), full)?;
-    assert!(rt; ends(&outcome, LOG, 124, 100));
+    let input = Input::whole(INPUT, false);
+    assert!(rt; ends_over(alloc, input, Room::ample(alloc), full, (LOG, 124, 100))?);
     Ok(())
 }
 
@@ -131,12 +151,18 @@ fn streams_take_nothing(rt: HostRuntime) -> Result<(), Fail> {
 fn flush_fails(rt: HostRuntime) -> Result<(), Fail> {
     let alloc = rt.alloc();
     for input in [INPUT, FAULTY] {
+        let (stuck, ample) = (Room::stuck(alloc), Room::ample(alloc));
         let whole = Input::whole(input, false);
-        let writer = over(alloc, whole, Room::stuck(alloc), Room::ample(alloc))?;
-        assert!(rt; ends(&writer, WRITER, 145, 185), "{input:?}");
+        assert!(rt;
+            ends_over(alloc, whole, stuck, ample, (WRITER, 145, 185))?,
+            "{input:?}"
+        );
+        let (stuck, ample) = (Room::stuck(alloc), Room::ample(alloc));
         let whole = Input::whole(input, false);
-        let log = over(alloc, whole, Room::ample(alloc), Room::stuck(alloc))?;
-        assert!(rt; ends(&log, LOG, 145, 185), "{input:?}");
+        assert!(rt;
+            ends_over(alloc, whole, ample, stuck, (LOG, 145, 185))?,
+            "{input:?}"
+        );
     }
     Ok(())
 }
