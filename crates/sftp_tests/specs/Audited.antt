@@ -8,7 +8,6 @@ use Rattle.sftp_server.specs.Served.{StreamBytes}
 use Rattle.sftp_audit.specs.declared.audits.Accepted.{Accepted}
 use Rattle.sftp_audit.specs.declared.errors.AuditError.{AuditError}
 use Rattle.sftp_audit.specs.declared.errors.AuditError.TheVariants.{NoMemory}
-use Rattle.sftp_tests.specs.declared.pieces.Pieces.{Pieces}
 use Rattle.sftp_handles.specs.State.{closed_tree}
 use Rattle.sftp_profile.specs.declared.profiles.Profile.{Profile}
 use Rattle.sftp_profile.specs.State.{begun}
@@ -33,11 +32,6 @@ Agrees start log (ends.Finished end) audited = AcceptsWith end audited
 Agrees start log (ends.Fault end fault) audited = ((log ≡ []) × (end ≡ start)) ⊎ AcceptsWith end audited
 Agrees start log (ends.Io stream) audited = ⊤
 Agrees start log ends.NoMemory audited = ⊤
-
--- ==== The bytes that a stream in given pieces has left.
-
-abbrev pub bytes_of : Pieces → List ℕ
-bytes_of pieces = pieces.rest.now
 
 -- ==== What bytes account for under a profile, and what an audit under it meets first.
 

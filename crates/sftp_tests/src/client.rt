@@ -1,13 +1,12 @@
 //! A client's session with a server: how many requests may be open, replies that come in another order, and each kind
 //! of request with its reply. Which calls are refused, and why, is in the contracts.
+use crate::memory::session;
 use crate::scripts::request;
 use crate::serving::VERSION as ALL_EXTENSIONS;
 use crate::wire::{attributes, written};
 use sftp_client::{ClientError, Pairing};
 use sftp_handles::{Session, SlabTable};
-use sftp_path::NoMemory;
-use sftp_tree::Tree;
-use sftp_wire::{Answer, Ask, Packet, Reply, Request, Side, WireError, front};
+use sftp_wire::{Answer, Ask, Packet, Reply, Request, Side, front};
 use std::alloc::Global;
 use std::test::Fail;
 
@@ -57,19 +56,12 @@ fn starts_with_init(alloc: Global, pairing: &Pairing) -> bool {
 /// Whether a session begins by the VERSION with all extensions.
 fn starts(alloc: Global, pairing: &mut Pairing) -> bool {
     let front = front(alloc, ALL_EXTENSIONS, Side::Server);
-    let refusal = refusal_of(pairing, &front);
+    let started = match &front {
+        Ok(Some((packet, _))) => pairing.on_version(packet).is_ok(),
+        _ => false,
+    };
     drop(front);
-    refusal.is_none()
-}
-
-fn refusal_of(
-    pairing: &mut Pairing,
-    front: &Result<Option<(Packet, usize)>, WireError>,
-) -> Option<ClientError> {
-    match front {
-        Ok(Some((packet, _))) => pairing.on_version(packet).err(),
-        _ => Some(ClientError::NoMemory),
-    }
+    started
 }
 
 /// Whether so many requests are sent, with ids from 0 on.
@@ -109,7 +101,7 @@ const ASKED: [&[u8]; 3] = [
 
 /// The same requests as packets, with the ids from 0 on, the last one first, each with its reply: there is no `/b`, and
 /// `/a` was made. On the blank tree these are status 2, ATTRS, and status 0.
-const PAIRS: [(&[u8], &[u8]); 3] = [
+const PAIRS: &[(&[u8], &[u8])] = &[
     (
         b"\0\0\0\x0b\x11\0\0\0\x02\0\0\0\x02/b",
         b"\0\0\0\x11\x65\0\0\0\x02\0\0\0\x02\0\0\0\0\0\0\0\0",
@@ -124,19 +116,23 @@ const PAIRS: [(&[u8], &[u8]); 3] = [
     ),
 ];
 
-/// The replies to the three requests, in the order sent, up to the first that is missing.
-fn replies(alloc: Global, pairing: &mut Pairing, session: &mut Session<SlabTable>) -> Vec<Reply> {
-    let mut replies = Vec::new(alloc);
-    for asked in ASKED {
-        let is_kept = match exchanged(alloc, pairing, session, asked) {
-            Some(reply) => replies.push(reply).is_ok(),
-            None => false,
-        };
-        if !is_kept {
-            break;
+/// Whether a session gives the three requests the ids 0 to 2.
+fn sends_three(alloc: Global, pairing: &mut Pairing) -> bool {
+    let [first, second, third] = ASKED;
+    sent(alloc, pairing, first) == Ok(0)
+        && sent(alloc, pairing, second) == Ok(1)
+        && sent(alloc, pairing, third) == Ok(2)
+}
+
+/// The reply of these bytes.
+fn reply_of(alloc: Global, bytes: &[u8]) -> Option<Reply> {
+    match front(alloc, bytes, Side::Server) {
+        Ok(Some((Packet::Reply(reply), _))) => Some(reply),
+        other => {
+            drop(other);
+            None
         }
     }
-    replies
 }
 
 /// Whether a packet has these bytes.
@@ -157,38 +153,32 @@ fn pairs(alloc: Global, pairing: &mut Pairing, reply: Reply, pair: (&[u8], &[u8]
     }
 }
 
-/// Whether the replies, taken from the last to the first, are paired so.
-fn pairs_backwards(alloc: Global, pairing: &mut Pairing, replies: &mut Vec<Reply>) -> bool {
-    for pair in PAIRS {
-        let is_paired = match replies.pop() {
-            Some(reply) => pairs(alloc, pairing, reply, pair),
-            None => false,
-        };
-        if !is_paired {
+/// Whether a session pairs the reply of these bytes with the request of these.
+fn gives_pair(alloc: Global, pairing: &mut Pairing, asked: &[u8], replied: &[u8]) -> bool {
+    match reply_of(alloc, replied) {
+        Some(reply) => pairs(alloc, pairing, reply, (asked, replied)),
+        None => false,
+    }
+}
+
+/// Whether the replies, from the last to the first, are paired so.
+fn pairs_backwards(alloc: Global, pairing: &mut Pairing) -> bool {
+    for (asked, replied) in PAIRS {
+        if !gives_pair(alloc, pairing, asked, replied) {
             return false;
         }
     }
-    replies.is_empty()
-}
-
-/// Whether three requests of a session on the blank tree are answered in the order sent, and their replies are paired
-/// in the opposite order.
-fn pairs_out_of_order(alloc: Global, pairing: &mut Pairing) -> Result<bool, NoMemory> {
-    let mut session: Session<SlabTable> = Session::new(Tree::blank(alloc)?)?;
-    let mut replies = replies(alloc, pairing, &mut session);
-    drop(session);
-    let paired = pairs_backwards(alloc, pairing, &mut replies);
-    drop(replies);
-    Ok(paired)
+    true
 }
 
 #[test]
 fn replies_out_of_order(rt: HostRuntime) -> Result<(), Fail> {
     let mut pairing = Pairing::new(rt.alloc())?;
     let started = starts(rt.alloc(), &mut pairing);
-    let paired = pairs_out_of_order(rt.alloc(), &mut pairing);
+    let sent = sends_three(rt.alloc(), &mut pairing);
+    let paired = pairs_backwards(rt.alloc(), &mut pairing);
     drop(pairing);
-    assert!(rt; started && paired == Ok(true));
+    assert!(rt; started && sent && paired);
     Ok(())
 }
 
@@ -241,10 +231,15 @@ fn exchanged(
     session: &mut Session<SlabTable>,
     asked: &[u8],
 ) -> Option<Reply> {
-    let sent = pairing.send(ask_of(alloc, asked)?);
-    let reply = answered(session, &sent);
-    drop(sent);
-    reply
+    match ask_of(alloc, asked) {
+        Some(ask) => {
+            let sent = pairing.send(ask);
+            let reply = answered(session, &sent);
+            drop(sent);
+            reply
+        }
+        None => None,
+    }
 }
 
 fn answered(
@@ -282,6 +277,20 @@ fn is_paired(pairing: &mut Pairing, reply: Reply, kind: u8) -> bool {
     }
 }
 
+/// Whether a request gets a reply of this kind, which the session pairs.
+fn is_exchanged(
+    alloc: Global,
+    pairing: &mut Pairing,
+    session: &mut Session<SlabTable>,
+    asked: &[u8],
+    kind: u8,
+) -> bool {
+    match exchanged(alloc, pairing, session, asked) {
+        Some(reply) => is_paired(pairing, reply, kind),
+        None => false,
+    }
+}
+
 /// The name of the first request whose reply is not of its kind, or is not paired.
 fn first_wrong(
     alloc: Global,
@@ -289,11 +298,7 @@ fn first_wrong(
     session: &mut Session<SlabTable>,
 ) -> Option<&'static str> {
     for (name, asked, kind) in SESSION {
-        let is_right = match exchanged(alloc, pairing, session, asked) {
-            Some(reply) => is_paired(pairing, reply, *kind),
-            None => false,
-        };
-        if !is_right {
+        if !is_exchanged(alloc, pairing, session, asked, *kind) {
             return Some(*name);
         }
     }
@@ -301,22 +306,24 @@ fn first_wrong(
 }
 
 /// The same of a server's new session.
-fn wrong_in_session(
-    alloc: Global,
-    pairing: &mut Pairing,
-) -> Result<Option<&'static str>, NoMemory> {
-    let mut session: Session<SlabTable> = Session::new(Tree::blank(alloc)?)?;
-    let wrong = first_wrong(alloc, pairing, &mut session);
-    drop(session);
-    Ok(wrong)
+fn wrong_in_session(alloc: Global, pairing: &mut Pairing) -> Option<&'static str> {
+    match session(alloc) {
+        Ok(mut session) => {
+            let wrong = first_wrong(alloc, pairing, &mut session);
+            drop(session);
+            wrong
+        }
+        Err(_) => Some("no session"),
+    }
 }
 
 #[test]
 fn session_of_every_request(rt: HostRuntime) -> Result<(), Fail> {
     let mut pairing = Pairing::new(rt.alloc())?;
-    let started = starts_with_init(rt.alloc(), &pairing) && starts(rt.alloc(), &mut pairing);
+    let greeted = starts_with_init(rt.alloc(), &pairing);
+    let started = starts(rt.alloc(), &mut pairing);
     let wrong = wrong_in_session(rt.alloc(), &mut pairing);
     drop(pairing);
-    assert!(rt; started && wrong == Ok(None), "{wrong:?}");
+    assert!(rt; greeted && started && wrong.is_none(), "{wrong:?}");
     Ok(())
 }

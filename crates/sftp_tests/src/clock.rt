@@ -1,10 +1,11 @@
 //! Times of access and modification, by a clock that a test sets.
-use crate::wire::attributes;
+use crate::memory::session;
+use crate::scripts::request;
 use sftp_clock::{Clocked, Moments, TimeTable};
 use sftp_handles::{Session, SlabTable};
 use sftp_server::Answerer;
-use sftp_tree::{NoMemory, Tree};
-use sftp_wire::{Answer, Ask, ByteString, Reply, Request};
+use sftp_tree::NoMemory;
+use sftp_wire::{Answer, Reply};
 use std::alloc::Global;
 use std::test::Fail;
 
@@ -20,78 +21,70 @@ impl Moments for Ticking {
     }
 }
 
+/// LSTAT of `/` and of `/d`, and MKDIR of `/d`.
+const LSTAT_ROOT: &[u8] = b"\x07\0\0\0\x01/";
+
+const LSTAT_D: &[u8] = b"\x07\0\0\0\x02/d";
+
+const MKDIR_D: &[u8] = b"\x0e\0\0\0\x02/d\0\0\0\0";
+
+type Times = Option<(u32, u32)>;
+
 /// The times that a reply shows.
-fn shown(reply: Reply) -> Option<(u32, u32)> {
-    match reply.answer {
-        Answer::Attrs(attrs) => attrs.times,
-        other => {
-            drop(other);
-            None
-        }
-    }
-}
-
-fn ask(
-    clocked: &mut Clocked<Ticking>,
-    session: &mut Session<SlabTable>,
-    ask: Ask,
-) -> Result<Option<(u32, u32)>, NoMemory> {
-    let request = Request { id: 1, ask };
-    let reply = clocked.answer(session, &request);
-    drop(request);
+fn shown(reply: &Result<Reply, NoMemory>) -> Times {
     match reply {
-        Ok(reply) => Ok(shown(reply)),
-        Err(error) => Err(error),
+        Ok(
+            Reply {
+                answer: Answer::Attrs(attrs),
+                ..
+            },
+        ) => attrs.times,
+        _ => None,
     }
 }
 
-fn lstat(
+/// The times that the reply to a request of this type and with these fields shows.
+fn ask(
     alloc: Global,
     clocked: &mut Clocked<Ticking>,
     session: &mut Session<SlabTable>,
-    path: &[u8],
-) -> Result<Option<(u32, u32)>, NoMemory> {
-    let path = ByteString::from_slice(alloc, path)?;
-    ask(clocked, session, Ask::Lstat { path })
+    part: &[u8],
+) -> Times {
+    match request(alloc, 1, part) {
+        Ok(request) => {
+            let reply = clocked.answer(session, &request);
+            drop(request);
+            let times = shown(&reply);
+            drop(reply);
+            times
+        }
+        Err(_) => None,
+    }
 }
 
 /// What the root and `/d` show before and after `/d` was made.
-fn by_the_clock(
+fn around_mkdir(
     alloc: Global,
+    clocked: &mut Clocked<Ticking>,
     session: &mut Session<SlabTable>,
-) -> Result<[Option<(u32, u32)>; 4], NoMemory> {
-    let mut clocked = Clocked::new(alloc, Ticking(10), TimeTable::new(alloc));
-    let before = [
-        lstat(alloc, &mut clocked, session, b"/")?,
-        lstat(alloc, &mut clocked, session, b"/d")?,
-    ];
-    let path = ByteString::from_slice(alloc, b"/d")?;
-    ask(
-        &mut clocked,
-        session,
-        Ask::Mkdir {
-            path,
-            attrs: attributes(None),
-        },
-    )?;
-    let [root, absent] = before;
-    Ok([
-        root,
-        absent,
-        lstat(alloc, &mut clocked, session, b"/")?,
-        lstat(alloc, &mut clocked, session, b"/d")?,
-    ])
+) -> [Times; 5] {
+    let root = ask(alloc, clocked, session, LSTAT_ROOT);
+    let absent = ask(alloc, clocked, session, LSTAT_D);
+    let done = ask(alloc, clocked, session, MKDIR_D);
+    let modified = ask(alloc, clocked, session, LSTAT_ROOT);
+    let made = ask(alloc, clocked, session, LSTAT_D);
+    [root, absent, done, modified, made]
 }
 
 /// At the start all have the time of then. What is made has the time of when it was made, and the directory above it is
 /// modified then.
 #[test]
 fn times_by_the_clock(rt: HostRuntime) -> Result<(), Fail> {
-    let mut session: Session<SlabTable> = Session::new(Tree::blank(rt.alloc())?)?;
-    let found = by_the_clock(rt.alloc(), &mut session);
+    let mut session = session(rt.alloc())?;
+    let mut clocked = Clocked::new(rt.alloc(), Ticking(10), TimeTable::new(rt.alloc()));
+    let shown = around_mkdir(rt.alloc(), &mut clocked, &mut session);
+    drop(clocked);
     drop(session);
-    let [root, absent, modified, made] = found?;
-    assert!(rt; root == Some((10, 10)) && absent == None);
-    assert!(rt; modified == Some((10, 11)) && made == Some((11, 11)));
+    assert!(rt; shown == [Some((10, 10)), None, None, Some((10, 11)), Some((11, 11))]);
     Ok(())
 }

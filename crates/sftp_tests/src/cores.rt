@@ -1,8 +1,8 @@
-//! What the core of a server takes and does, and which acts the schedules choose.
+//! What the core of a server takes and does.
 use crate::scripts::request;
 use sftp_handles::SlabTable;
 use sftp_path::NoMemory;
-use sftp_server::{Core, Did, Refuse, Schedule, Shuffle};
+use sftp_server::{Core, Did, Refuse};
 use sftp_tree::Tree;
 use sftp_wire::Request;
 use std::alloc::Global;
@@ -241,12 +241,4 @@ fn calls_of_cores(rt: HostRuntime) -> Result<(), Fail> {
         assert!(rt; wrong.is_none() && finished == *ends, "{name}: {wrong:?}");
     }
     Ok(())
-}
-
-/// The first choices of two seeds.
-#[test]
-fn picks_of_schedules(rt: HostRuntime) {
-    for (state, number) in [(0, 167_951_807), (1, 908_834_774)] {
-        assert!(rt; Shuffle(state).pick(5) == number, "{state}");
-    }
 }

@@ -9,8 +9,6 @@
 
 pub mod answered;
 #[cfg(test)]
-mod answering;
-#[cfg(test)]
 mod audit;
 pub mod audited;
 #[cfg(test)]
@@ -21,10 +19,7 @@ mod clock;
 mod cores;
 pub mod from_memory;
 #[cfg(test)]
-mod handles;
-#[cfg(test)]
 mod memory;
-pub mod pieces;
 #[cfg(test)]
 mod scripts;
 #[cfg(test)]

@@ -1,12 +1,11 @@
 //! Acts of a server that are done one after the other: the events that they make, and the tree in the end.
 use crate::audit::BLANK;
-use crate::wire::written;
 use sftp_handles::SlabTable;
 use sftp_path::NoMemory;
 use sftp_server::{Act, Core, run_script};
 use sftp_transcript::Event;
 use sftp_tree::Tree;
-use sftp_wire::{Packet, Request, Side, front};
+use sftp_wire::{Answer, Ask, Packet, Request, Side, front};
 use std::alloc::Global;
 
 /// An act. Of a request there are its id, and the byte of its type with what follows the id.
@@ -21,8 +20,21 @@ const MKDIR: &[u8] = b"\x0e\0\0\0\x02/a\0\0\0\0";
 
 const RMDIR: &[u8] = b"\x0f\0\0\0\x02/a";
 
-/// STATUS 0.
-const DONE: &[u8] = b"e\0\0\0\0\0\0\0\0\0\0\0\0";
+const PATH: &[u8] = b"/a";
+
+/// An event: `C` a request with its id and the type of its packet, or `S` a reply with its id and the code of its
+/// status.
+type Shown = (u8, u32, u32);
+
+const MADE_1: Shown = (b'C', 1, 14);
+
+const REMOVED_1: Shown = (b'C', 1, 15);
+
+const REMOVED_2: Shown = (b'C', 2, 15);
+
+const DONE_1: Shown = (b'S', 1, 0);
+
+const DONE_2: Shown = (b'S', 2, 0);
 
 const MAKE_1: Step = Step::Deliver(1, MKDIR);
 
@@ -38,20 +50,19 @@ const SEND_0: Step = Step::Send(0);
 
 const SEND_1: Step = Step::Send(1);
 
-/// What a script shows, its acts, its events as packets, and whether each request is answered in the end. Then the tree
-/// is blank.
-const SCRIPTS: &[(&str, &[Step], &[(u32, &[u8])], bool)] = &[
+/// What a script shows, its acts, its events, and whether each request is answered in the end. Then the tree is blank.
+const SCRIPTS: &[(&str, &[Step], &[Shown], bool)] = &[
     ("no acts", &[], &[], true),
     (
         "requests are done in the order asked, and answered in any order",
         &[MAKE_1, REMOVE_2, WORK_1, WORK_0, WORK_1, SEND_1, SEND_0],
-        &[(1, MKDIR), (2, RMDIR), (2, DONE), (1, DONE)],
+        &[MADE_1, REMOVED_2, DONE_2, DONE_1],
         true,
     ),
     (
         "what is answered in front leaves the queue",
         &[MAKE_1, REMOVE_2, WORK_0, SEND_0, WORK_0, SEND_0],
-        &[(1, MKDIR), (2, RMDIR), (1, DONE), (2, DONE)],
+        &[MADE_1, REMOVED_2, DONE_1, DONE_2],
         true,
     ),
     (
@@ -59,7 +70,7 @@ const SCRIPTS: &[(&str, &[Step], &[(u32, &[u8])], bool)] = &[
         &[
             MAKE_1, REMOVE_2, WORK_0, WORK_1, SEND_1, SEND_1, SEND_0, SEND_0,
         ],
-        &[(1, MKDIR), (2, RMDIR), (2, DONE), (1, DONE)],
+        &[MADE_1, REMOVED_2, DONE_2, DONE_1],
         true,
     ),
     (
@@ -67,19 +78,19 @@ const SCRIPTS: &[(&str, &[Step], &[(u32, &[u8])], bool)] = &[
         &[
             MAKE_1, REMOVE_1, WORK_0, REMOVE_1, SEND_0, REMOVE_1, WORK_0, SEND_0,
         ],
-        &[(1, MKDIR), (1, DONE), (1, RMDIR), (1, DONE)],
+        &[MADE_1, DONE_1, REMOVED_1, DONE_1],
         true,
     ),
     (
         "no reply is sent before its request is done",
         &[MAKE_1, SEND_0],
-        &[(1, MKDIR)],
+        &[MADE_1],
         false,
     ),
     (
         "behind the queue nothing is done",
         &[WORK_0, SEND_0, MAKE_1, WORK_1, SEND_1],
-        &[(1, MKDIR)],
+        &[MADE_1],
         false,
     ),
 ];
@@ -110,9 +121,16 @@ pub(crate) fn request(alloc: Global, id: u32, part: &[u8]) -> Result<Request, No
     }
 }
 
+fn delivery(alloc: Global, id: u32, part: &[u8]) -> Result<Act, NoMemory> {
+    match request(alloc, id, part) {
+        Ok(request) => Ok(Act::Deliver(request)),
+        Err(error) => Err(error),
+    }
+}
+
 fn act(alloc: Global, step: Step) -> Result<Act, NoMemory> {
     match step {
-        Step::Deliver(id, part) => Ok(Act::Deliver(request(alloc, id, part)?)),
+        Step::Deliver(id, part) => delivery(alloc, id, part),
         Step::Work(k) => Ok(Act::Work(k)),
         Step::Send(k) => Ok(Act::Send(k)),
     }
@@ -121,7 +139,12 @@ fn act(alloc: Global, step: Step) -> Result<Act, NoMemory> {
 /// Adds an act, unless memory runs out.
 fn adds(alloc: Global, acts: &mut Vec<Act>, step: Step) -> bool {
     match act(alloc, step) {
-        Ok(act) => acts.push(act).is_ok(),
+        Ok(act) => {
+            let pushed = acts.push(act);
+            let is_added = pushed.is_ok();
+            drop(pushed);
+            is_added
+        }
         Err(_) => false,
     }
 }
@@ -135,50 +158,55 @@ fn adds_each(alloc: Global, acts: &mut Vec<Act>, steps: &[Step]) -> bool {
     true
 }
 
-fn packet_of(event: Event) -> Packet {
-    match event {
-        Event::Asked(request) => Packet::Request(request),
-        Event::Replied(reply) => Packet::Reply(reply),
+/// What a request asks of `/a`: the type of its packet.
+fn asked(ask: &Ask) -> u32 {
+    match ask {
+        Ask::Mkdir { path, .. } if path.as_slice() == PATH => 14,
+        Ask::Rmdir { path } if path.as_slice() == PATH => 15,
+        _ => 0,
     }
 }
 
-/// Whether there is an event, whose packet has these bytes.
-fn is_event(alloc: Global, event: Option<Event>, bytes: &[u8]) -> bool {
-    let Some(event) = event else {
-        return false;
-    };
-    let (said, out) = written(Vec::new(alloc), packet_of(event));
-    said == Ok(()) && out.as_slice() == bytes
+/// The code of a status.
+fn code_of(answer: &Answer) -> u32 {
+    match answer {
+        Answer::Status { code, .. } => *code,
+        _ => u32::MAX,
+    }
 }
 
-/// Whether there is an event with this id, of this type and with these fields.
-fn has_parts(alloc: Global, event: Option<Event>, id: u32, part: &[u8]) -> bool {
-    let bytes = packet(alloc, id, part);
-    let is_event = is_event(alloc, event, bytes.as_slice());
-    drop(bytes);
-    is_event
+fn shown(event: &Event) -> Shown {
+    match event {
+        Event::Asked(request) => (b'C', request.id, asked(&request.ask)),
+        Event::Replied(reply) => (b'S', reply.id, code_of(&reply.answer)),
+    }
 }
 
-/// Takes the events out, the last one first, and says whether they are these packets.
-fn are_events(alloc: Global, events: &mut Vec<Event>, packets: &[(u32, &[u8])]) -> bool {
-    for (id, part) in packets.iter().rev() {
-        if !has_parts(alloc, events.pop(), *id, part) {
+/// Whether the events are these.
+fn are_events(events: &[Event], wanted: &[Shown]) -> bool {
+    for (index, event) in events.iter().enumerate() {
+        if wanted.get(index).copied() != Some(shown(event)) {
             return false;
         }
     }
-    events.is_empty()
+    events.len() == wanted.len()
 }
 
-fn is_blank(tree: &Tree) -> bool {
+/// Whether the tree file of a tree has these bytes.
+pub(crate) fn is_tree(tree: &Tree, file: &[u8]) -> bool {
     match tree.write() {
-        Ok(file) => file.as_slice() == BLANK,
+        Ok(written) => {
+            let is_tree = written.as_slice() == file;
+            drop(written);
+            is_tree
+        }
         Err(_) => false,
     }
 }
 
 fn is_end(end: &Result<Tree, Core<SlabTable>>, ends: bool) -> bool {
     match end {
-        Ok(tree) => ends && is_blank(tree),
+        Ok(tree) => ends && is_tree(tree, BLANK),
         Err(_) => !ends,
     }
 }
@@ -191,32 +219,22 @@ fn ends_so(core: Core<SlabTable>, ends: bool) -> bool {
     holds
 }
 
-/// Whether these acts make these events, and lead to this end.
-fn holds(alloc: Global, steps: &[Step], packets: &[(u32, &[u8])], ends: bool) -> bool {
-    let mut acts = Vec::new(alloc);
-    let has_acts = adds_each(alloc, &mut acts, steps);
-    let ran = ran(alloc, acts.as_slice());
-    drop(acts);
-    has_acts && is_run(alloc, ran, packets, ends)
-}
-
 /// What comes of these acts, on a blank tree.
 fn ran(alloc: Global, acts: &[Act]) -> Result<(Vec<Event>, Core<SlabTable>), NoMemory> {
     match Tree::blank(alloc) {
         Ok(tree) => run_script(tree, acts),
-        Err(_) => Err(NoMemory),
+        Err(error) => Err(error),
     }
 }
 
 fn is_run(
-    alloc: Global,
     ran: Result<(Vec<Event>, Core<SlabTable>), NoMemory>,
-    packets: &[(u32, &[u8])],
+    wanted: &[Shown],
     ends: bool,
 ) -> bool {
     match ran {
-        Ok((mut events, core)) => {
-            let same = are_events(alloc, &mut events, packets);
+        Ok((events, core)) => {
+            let same = are_events(events.as_slice(), wanted);
             drop(events);
             let ended = ends_so(core, ends);
             same && ended
@@ -225,9 +243,19 @@ fn is_run(
     }
 }
 
+/// Whether these acts make these events, and lead to this end.
+fn holds(alloc: Global, steps: &[Step], wanted: &[Shown], ends: bool) -> bool {
+    let mut acts = Vec::new(alloc);
+    let has_acts = adds_each(alloc, &mut acts, steps);
+    let ran = ran(alloc, acts.as_slice());
+    drop(acts);
+    let is_run = is_run(ran, wanted, ends);
+    has_acts && is_run
+}
+
 #[test]
 fn events_of_scripts(rt: HostRuntime) {
-    for (name, steps, packets, ends) in SCRIPTS {
-        assert!(rt; holds(rt.alloc(), steps, packets, *ends), "{name}");
+    for (name, steps, wanted, ends) in SCRIPTS {
+        assert!(rt; holds(rt.alloc(), steps, wanted, *ends), "{name}");
     }
 }

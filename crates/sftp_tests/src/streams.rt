@@ -24,6 +24,13 @@ impl<'a> Input<'a> {
         let fails = true;
         Input { rest, size, fails }
     }
+
+    /// One byte a call, and then the end.
+    pub(crate) fn bytes(rest: &'a [u8]) -> Input<'a> {
+        let size = 1;
+        let fails = false;
+        Input { rest, size, fails }
+    }
 }
 
 impl Read for Input<'_> {

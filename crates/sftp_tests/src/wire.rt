@@ -1,13 +1,9 @@
-//! What tests of packets by value share, and replies that no session writes: they are read, and written again as the
-//! same bytes.
+//! What tests of packets by value share.
 //!
 //! A packet is let go by `drop` alone: where it goes at the end of its block, all of its kinds are taken apart there
 //! anew, which is slow to prove.
-use sftp_wire::{
-    Answer, Ask, Attrs, ByteString, Packet, Reply, Request, Side, WireError, encode, front,
-};
+use sftp_wire::{Answer, Ask, Attrs, ByteString, Packet, Reply, Request, WireError, encode};
 use std::alloc::{AllocError, Global};
-use std::test::Fail;
 
 mod framing;
 mod refusals;
@@ -17,10 +13,6 @@ pub(crate) fn written(mut out: Vec<u8>, packet: Packet) -> (Result<(), WireError
     let said = encode(&packet, &mut out);
     drop(packet);
     (said, out)
-}
-
-fn text(alloc: Global, bytes: &[u8]) -> Result<ByteString, AllocError> {
-    ByteString::from_slice(alloc, bytes)
 }
 
 /// A byte string of so many bytes.
@@ -44,44 +36,4 @@ fn request(id: u32, ask: Ask) -> Packet {
 
 fn reply(id: u32, answer: Answer) -> Packet {
     Packet::Reply(Reply { id, answer })
-}
-
-const REPLIES: &[&[u8]] = &[
-    b"\0\0\0\x13\x65\0\0\0\x10\xff\xff\xff\xff\0\0\0\0\0\0\0\x02\xc3\xa9",
-    b"\0\0\0\x3d\x68\0\0\0\x13\0\0\0\x02\0\0\0\x01a\0\0\0\x05-rw a\
-    \0\0\0\x07\0\0\0\0\0\0\0\x2a\0\0\x03\xe8\0\0\0\x64\0\0\x81\xa4\0\0\0\x02\xc3\xa9\0\0\0\0\0\0\0\0",
-    b"\0\0\0\x09\x68\0\0\0\x01\0\0\0\0",
-    b"\0\0\0\x33\x69\0\0\0\x14\x80\0\0\x0f\x80\0\0\0\0\0\0\x01\0\0\0\x01\0\0\0\x02\0\0\x41\xed\
-    \xff\xff\xff\xff\0\0\0\x03\0\0\0\x01\0\0\0\x01t\0\0\0\x01d",
-    b"\0\0\0\x0d\x69\0\0\0\x01\x80\0\0\0\0\0\0\0",
-    b"\0\0\0\x08\xc9\0\0\0\x18\0\xc8\xff",
-    b"\0\0\0\x05\xc9\0\0\0\x19",
-];
-
-/// The bytes of the reply in front, written again.
-fn again(alloc: Global, bytes: &[u8]) -> Vec<u8> {
-    let front = front(alloc, bytes, Side::Server);
-    let mut again = Vec::new(alloc);
-    if let Ok(Some((packet, _))) = &front
-        && encode(packet, &mut again).is_err()
-    {
-        again.clear();
-    }
-    drop(front);
-    again
-}
-
-/// Whether a reply comes again, with the first bytes of a further packet behind it.
-fn comes_again(alloc: Global, bytes: &[u8]) -> Result<bool, AllocError> {
-    let mut stream = Vec::from_slice(alloc, bytes)?;
-    stream.extend_from_slice(b"\0\0\0\x05\x01")?;
-    Ok(again(alloc, stream.as_slice()).as_slice() == bytes)
-}
-
-#[test]
-fn replies(rt: HostRuntime) -> Result<(), Fail> {
-    for bytes in REPLIES {
-        assert!(rt; comes_again(rt.alloc(), bytes)?, "{bytes:?}");
-    }
-    Ok(())
 }

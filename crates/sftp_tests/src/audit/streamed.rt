@@ -1,92 +1,66 @@
 //! Audits of streams: what is judged however the reads are cut, and where the source fails.
-use super::{BLANK, DONE, MAKE_A, WITH_A, recorded};
+use super::{BLANK, WITH_A};
 use crate::streams::Input;
 use crate::transcript::{SESSION, record_at};
 use sftp_audit::{Accepted, AuditError, Refusal, TranscriptError, audit_stream};
 use sftp_transcript::{Reader, Tally};
 use std::alloc::Global;
-use std::io::Read;
-use std::test::Fail;
 
-/// The audit of these bytes, read one by one; then the source fails.
-fn torn(alloc: Global, tree: &[u8], transcript: &[u8]) -> Result<Accepted, AuditError> {
-    let mut records = Reader::new(alloc, Tally::new(Input::torn(transcript)))?;
-    audit_stream(alloc, tree, &mut records)
-}
+/// The session, and its reply once more as the fifth record.
+const TWICE: &[u8] = b"SFTPTR01C\0\0\0\x05\x01\0\0\0\x03S\0\0\0\x05\x02\0\0\0\x03\
+C\0\0\0\x0f\x0e\0\0\0\x01\0\0\0\x02/a\0\0\0\0S\0\0\0\x11\x65\0\0\0\x01\0\0\0\0\0\0\0\0\0\0\0\0\
+S\0\0\0\x11\x65\0\0\0\x01\0\0\0\0\0\0\0\0\0\0\0\0";
 
-/// The audit of these bytes, read one by one up to their end.
-fn in_bytes(alloc: Global, tree: &[u8], transcript: &[u8]) -> Result<Accepted, AuditError> {
-    let bytes = Input::torn(transcript).take(transcript.len() as u64);
-    let mut records = Reader::new(alloc, Tally::new(bytes))?;
-    audit_stream(alloc, tree, &mut records)
-}
-
-/// Whether an audit says that the source failed in this record.
-fn is_failure(judged: &Result<Accepted, AuditError>, record: u64) -> bool {
-    match judged {
-        Err(AuditError::Transcript(TranscriptError::Io { record: at })) => *at == record,
-        _ => false,
+fn judged(alloc: Global, tree: &[u8], transcript: Input) -> Result<Accepted, AuditError> {
+    match Reader::new(alloc, Tally::new(transcript)) {
+        Ok(mut records) => {
+            let judged = audit_stream(alloc, tree, &mut records);
+            drop(records);
+            judged
+        }
+        Err(error) => Err(AuditError::from(error)),
     }
 }
 
-/// Whether the audit of so many bytes of the session says that the source failed then.
-fn fails_behind(alloc: Global, count: usize) -> bool {
-    let judged = torn(alloc, BLANK, SESSION.get(..count).unwrap_or(SESSION));
-    let fails = is_failure(&judged, record_at(count));
+/// What an audit says, in a letter and a number: `a` that it accepts so many requests, which made `/a`; `i` that the
+/// source failed in this record; `u` that this record is a reply to no request; `t` that the tree file is malformed.
+fn told(judged: &Result<Accepted, AuditError>) -> (u8, u64) {
+    match judged {
+        Ok(accepted) if accepted.tree.as_slice() == WITH_A => (b'a', accepted.requests),
+        Ok(_) => (b'?', 0),
+        Err(AuditError::Transcript(TranscriptError::Io { record })) => (b'i', *record),
+        Err(AuditError::Refused(Refusal::UnknownReply { record })) => (b'u', *record),
+        Err(AuditError::Tree(_)) => (b't', 0),
+        Err(_) => (b'?', 0),
+    }
+}
+
+/// What the audit of this transcript says, which begins on the tree of this file.
+fn said(alloc: Global, tree: &[u8], transcript: Input) -> (u8, u64) {
+    let judged = judged(alloc, tree, transcript);
+    let told = told(&judged);
     drop(judged);
-    fails
+    told
 }
 
 /// The source fails in the current record, also where the session so far is good.
 #[test]
 fn sources_fail(rt: HostRuntime) {
     for count in 0..=SESSION.len() {
-        assert!(rt; fails_behind(rt.alloc(), count), "{count}");
+        let torn = Input::torn(SESSION.get(..count).unwrap_or(SESSION));
+        assert!(rt;
+            said(rt.alloc(), BLANK, torn) == (b'i', record_at(count)),
+            "{count}"
+        );
     }
 }
 
-/// Whether an audit refuses this transcript for its fifth record, a second reply.
-fn refuses(alloc: Global, transcript: &[u8]) -> bool {
-    let judged = torn(alloc, BLANK, transcript);
-    let refused = match &judged {
-        Err(AuditError::Refused(refusal)) => *refusal == Refusal::UnknownReply { record: 5 },
-        _ => false,
-    };
-    drop(judged);
-    refused
-}
-
-/// Whether an audit refuses a tree file that is too short before it reads this transcript.
-fn refuses_tree(alloc: Global, transcript: &[u8]) -> bool {
-    let judged = torn(alloc, b"SFTREE0", transcript);
-    let refused = matches!(&judged, Err(AuditError::Tree(_)));
-    drop(judged);
-    refused
-}
-
-/// A refusal, and a fault of the tree, come before a failure of the source that comes later.
+/// A refusal, and a fault of the tree, come before a failure of the source that comes later. Where it does not fail,
+/// the session is accepted byte by byte.
 #[test]
-fn judges_what_was_read(rt: HostRuntime) -> Result<(), Fail> {
-    let twice = recorded(rt.alloc(), &[MAKE_A, DONE, DONE])?;
-    let refused = refuses(rt.alloc(), twice.as_slice());
-    let tree_refused = refuses_tree(rt.alloc(), twice.as_slice());
-    drop(twice);
-    assert!(rt; refused && tree_refused, "{refused} {tree_refused}");
-    Ok(())
-}
-
-/// Whether the session is accepted, with the tree that MKDIR made, where it is read byte by byte.
-fn accepts_pieces(alloc: Global) -> bool {
-    let judged = in_bytes(alloc, BLANK, SESSION);
-    let accepts = match &judged {
-        Ok(accepted) => accepted.requests == 1 && accepted.tree.as_slice() == WITH_A,
-        Err(_) => false,
-    };
-    drop(judged);
-    accepts
-}
-
-#[test]
-fn reads_in_pieces(rt: HostRuntime) {
-    assert!(rt; accepts_pieces(rt.alloc()));
+fn judges_what_was_read(rt: HostRuntime) {
+    let refused = said(rt.alloc(), BLANK, Input::torn(TWICE));
+    let malformed = said(rt.alloc(), b"SFTREE0", Input::torn(TWICE));
+    let accepted = said(rt.alloc(), BLANK, Input::bytes(SESSION));
+    assert!(rt; refused == (b'u', 5) && malformed == (b't', 0) && accepted == (b'a', 1));
 }

@@ -4,7 +4,6 @@ use crate::streams::Room;
 use sftp_transcript::{Sink, Tally, TranscriptError, Writer};
 use sftp_wire::{Ask, ByteString, Fault, Packet, Pairs, Request, Side};
 use std::alloc::Global;
-use std::test::Fail;
 
 /// VERSION 3.
 const VERSION: &[u8] = b"\0\0\0\x05\x02\0\0\0\x03";
@@ -12,21 +11,17 @@ const VERSION: &[u8] = b"\0\0\0\x05\x02\0\0\0\x03";
 /// What a call gives, and the record that it names if the sink failed.
 type Written = Result<(), TranscriptError>;
 
-/// What the records of INIT and VERSION and a flush give, the bytes then, and how many calls failed.
-fn greeting(alloc: Global, sink: Room) -> Result<([Written; 3], Vec<u8>, u64), TranscriptError> {
-    let mut writer = Writer::new(alloc, Tally::new(sink))?;
+/// What the records of INIT and VERSION and a flush give.
+fn greeting(alloc: Global, writer: &mut Writer<Tally<Room>>) -> [Written; 3] {
     let init = Packet::Init {
         version: 3,
         extensions: Pairs::new(Vec::new(alloc)),
     };
     let first = writer.record(Side::Client, &init);
+    drop(init);
     let second = writer.record_bytes(Side::Server, VERSION);
     let third = writer.flush();
-    drop(init);
-    let tally = writer.into_sink();
-    let failures = Sink::failures(&tally);
-    let Room { bytes, .. } = tally.into_inner();
-    Ok(([first, second, third], bytes, failures))
+    [first, second, third]
 }
 
 /// What the calls have to give where the sink has this room: the first 18 bytes are the opening and INIT, and 10 more
@@ -41,39 +36,46 @@ fn expected(room: usize) -> [Written; 3] {
     }
 }
 
-/// Whether a sink of this room has what fits, and each call gives what it has to.
-fn is_greeting(alloc: Global, room: usize, fails: bool) -> Result<bool, TranscriptError> {
-    let (written, bytes, failures) = greeting(alloc, Room::of(alloc, room, 1, fails))?;
-    let front = OPENING.get(..room).unwrap_or(OPENING);
-    Ok(
-        written == expected(room)
-            && bytes.as_slice() == front
-            && failures == if room < OPENING.len() { 1 } else { 0 },
-    )
+/// Whether the calls give this, a sink has these bytes then, and one call failed if any gave an error.
+fn greets(alloc: Global, sink: Room, wanted: [Written; 3], bytes: &[u8]) -> bool {
+    match Writer::new(alloc, Tally::new(sink)) {
+        Ok(mut writer) => {
+            let written = greeting(alloc, &mut writer);
+            let tally = writer.into_sink();
+            let failures = Sink::failures(&tally);
+            let room = tally.into_inner();
+            let has_bytes = room.bytes.as_slice() == bytes;
+            drop(room);
+            let failed = if wanted[2].is_err() { 1 } else { 0 };
+            has_bytes && written == wanted && failures == failed
+        }
+        Err(_) => false,
+    }
 }
 
 #[test]
-fn stops_where_the_sink_fails(rt: HostRuntime) -> Result<(), Fail> {
+fn stops_where_the_sink_fails(rt: HostRuntime) {
     for room in 0..30 {
-        assert!(rt; is_greeting(rt.alloc(), room, false)?, "{room}");
-        assert!(rt; is_greeting(rt.alloc(), room, true)?, "{room}");
+        let front = OPENING.get(..room).unwrap_or(OPENING);
+        let full = Room::of(rt.alloc(), room, 1, false);
+        let stops = greets(rt.alloc(), full, expected(room), front);
+        let failing = Room::of(rt.alloc(), room, 1, true);
+        let fails = greets(rt.alloc(), failing, expected(room), front);
+        assert!(rt; stops && fails, "{room}");
     }
-    Ok(())
 }
 
 /// All records are written, and the flush fails.
 #[test]
-fn stops_where_the_flush_fails(rt: HostRuntime) -> Result<(), Fail> {
-    let (written, bytes, failures) = greeting(rt.alloc(), Room::stuck(rt.alloc()))?;
-    assert!(rt; written == [Ok(()), Ok(()), Err(TranscriptError::Io { record: 2 })]);
-    assert!(rt; bytes.as_slice() == OPENING && failures == 1);
-    Ok(())
+fn stops_where_the_flush_fails(rt: HostRuntime) {
+    let wanted: [Written; 3] = [Ok(()), Ok(()), Err(TranscriptError::Io { record: 2 })];
+    assert!(rt; greets(rt.alloc(), Room::stuck(rt.alloc()), wanted, OPENING));
 }
 
 /// What the record of a STAT of a path that is so long gives.
-fn record_stat<L: Sink>(
+fn record_stat(
     alloc: Global,
-    writer: &mut Writer<L>,
+    writer: &mut Writer<Tally<Room>>,
     side: Side,
     length: usize,
 ) -> Written {
@@ -85,30 +87,42 @@ fn record_stat<L: Sink>(
     written
 }
 
-/// Whether packets of another side, and packets that are too long, are refused, and write nothing. A path of 262,131
-/// bytes makes the longest packet.
-fn refuses(alloc: Global) -> Result<bool, TranscriptError> {
-    let mut writer = Writer::new(alloc, Tally::new(Room::ample(alloc)))?;
-    let other_side = record_stat(alloc, &mut writer, Side::Server, 1);
-    let too_long = record_stat(alloc, &mut writer, Side::Client, 262_132);
-    let first = record_stat(alloc, &mut writer, Side::Client, 1);
-    let second = record_stat(alloc, &mut writer, Side::Client, 262_132);
-    let bytes = writer.into_sink().into_inner().bytes;
-    let wire = |fault, record| Err(TranscriptError::Wire { fault, record });
-    Ok(
-        [other_side, too_long, first, second]
-            == [
-                wire(Fault::WrongType, 1),
-                wire(Fault::Length, 1),
-                Ok(()),
-                wire(Fault::Length, 2),
-            ]
-            && bytes.as_slice() == b"SFTPTR01C\0\0\0\x0a\x11\0\0\0\x01\0\0\0\x01a".as_slice(),
-    )
+/// What the records of another side, of a path that is too long, of a path of one byte, and of a path that is too long
+/// give. A path of 262,131 bytes makes the longest packet.
+fn record_stats(alloc: Global, writer: &mut Writer<Tally<Room>>) -> [Written; 4] {
+    let other_side = record_stat(alloc, writer, Side::Server, 1);
+    let too_long = record_stat(alloc, writer, Side::Client, 262_132);
+    let first = record_stat(alloc, writer, Side::Client, 1);
+    let second = record_stat(alloc, writer, Side::Client, 262_132);
+    [other_side, too_long, first, second]
+}
+
+/// What they have to give: the number is that of the next record.
+fn refusals() -> [Written; 4] {
+    let (fault, record) = (Fault::WrongType, 1);
+    let other_side = Err(TranscriptError::Wire { fault, record });
+    let fault = Fault::Length;
+    let too_long = Err(TranscriptError::Wire { fault, record });
+    let second = Err(TranscriptError::Wire { fault, record: 2 });
+    [other_side, too_long, Ok(()), second]
+}
+
+/// Whether packets of another side, and packets that are too long, are refused, and write nothing.
+fn refuses(alloc: Global) -> bool {
+    match Writer::new(alloc, Tally::new(Room::ample(alloc))) {
+        Ok(mut writer) => {
+            let written = record_stats(alloc, &mut writer);
+            let room = writer.into_sink().into_inner();
+            let has_one = room.bytes.as_slice()
+                == b"SFTPTR01C\0\0\0\x0a\x11\0\0\0\x01\0\0\0\x01a".as_slice();
+            drop(room);
+            has_one && written == refusals()
+        }
+        Err(_) => false,
+    }
 }
 
 #[test]
-fn refuses_packets_without_records(rt: HostRuntime) -> Result<(), Fail> {
-    assert!(rt; refuses(rt.alloc())?);
-    Ok(())
+fn refuses_packets_without_records(rt: HostRuntime) {
+    assert!(rt; refuses(rt.alloc()));
 }

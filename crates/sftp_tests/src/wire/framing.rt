@@ -1,7 +1,6 @@
 //! Streams that are written out by hand.
 use sftp_wire::{FrameBuf, Side};
 use std::alloc::Global;
-use std::test::Fail;
 
 /// INIT of version 3, with no extensions.
 const INIT: &[u8] = b"\0\0\0\x05\x01\0\0\0\x03";
@@ -180,13 +179,22 @@ const STREAMS: &[(&str, &[Call])] = &[
     ("places", PLACES),
 ];
 
+/// The first wrong call of a new buffer; the number of calls where there is no memory for one.
+fn wrong_call(alloc: Global, calls: &[Call]) -> Option<usize> {
+    match FrameBuf::new(alloc) {
+        Ok(mut frames) => {
+            let wrong = first_wrong(alloc, &mut frames, calls);
+            drop(frames);
+            wrong
+        }
+        Err(_) => Some(calls.len()),
+    }
+}
+
 #[test]
-fn streams_of_calls(rt: HostRuntime) -> Result<(), Fail> {
+fn streams_of_calls(rt: HostRuntime) {
     for (name, calls) in STREAMS {
-        let mut frames = FrameBuf::new(rt.alloc())?;
-        let wrong = first_wrong(rt.alloc(), &mut frames, calls);
-        drop(frames);
+        let wrong = wrong_call(rt.alloc(), calls);
         assert!(rt; wrong.is_none(), "{name}: {wrong:?}");
     }
-    Ok(())
 }

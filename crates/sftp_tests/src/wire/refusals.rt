@@ -1,8 +1,8 @@
 //! Packets that are not written, packets after other bytes, and the texts of errors.
-use super::{attributes, long, reply, request, text, written};
+use super::{attributes, long, reply, request, written};
+use crate::scripts::request as request_of;
 use sftp_wire::{Answer, Ask, ByteString, Fault, Packet, WireError, encode};
-use std::alloc::{AllocError, Global};
-use std::test::Fail;
+use std::alloc::Global;
 
 /// The bytes in front of which a refused packet leaves nothing.
 const KEPT: &[u8] = b"kept";
@@ -41,44 +41,64 @@ fn on_handle(alloc: Global, kind: u8, handle: ByteString) -> Ask {
     }
 }
 
-/// Whether a request of that kind with a handle of 257 bytes is too long.
-fn is_too_long(alloc: Global, kind: u8) -> Result<bool, AllocError> {
-    let ask = on_handle(alloc, kind, long(alloc, 257)?);
-    Ok(is_refused(alloc, request(1, ask), WireError::TooLong))
+/// A packet with these bytes: `h` HANDLE, `b` DATA, and else a request on that handle.
+fn packet_with(alloc: Global, kind: u8, bytes: ByteString) -> Packet {
+    match kind {
+        b'h' => reply(1, Answer::Handle(bytes)),
+        b'b' => reply(1, Answer::Data(bytes)),
+        _ => request(1, on_handle(alloc, kind, bytes)),
+    }
 }
 
-/// Whether a reply with an answer that is made of so many bytes is too long.
-fn is_too_long_in(alloc: Global, length: usize, handle: bool) -> Result<bool, AllocError> {
-    let bytes = long(alloc, length)?;
-    let answer = if handle {
-        Answer::Handle(bytes)
-    } else {
-        Answer::Data(bytes)
-    };
-    Ok(is_refused(alloc, reply(1, answer), WireError::TooLong))
+/// Whether a packet of that kind with so many bytes is too long.
+fn is_too_long(alloc: Global, kind: u8, length: usize) -> bool {
+    match long(alloc, length) {
+        Ok(bytes) => is_refused(alloc, packet_with(alloc, kind, bytes), WireError::TooLong),
+        Err(_) => false,
+    }
 }
 
 /// Handles of 257 bytes, and a packet of 262,145.
+const TOO_LONG: &[(u8, usize)] = &[
+    (b'c', 257),
+    (b'r', 257),
+    (b'w', 257),
+    (b't', 257),
+    (b's', 257),
+    (b'd', 257),
+    (b'f', 257),
+    (b'h', 257),
+    (b'b', 262_132),
+];
+
 #[test]
-fn too_long(rt: HostRuntime) -> Result<(), Fail> {
-    for kind in *b"crwtsdf" {
-        assert!(rt; is_too_long(rt.alloc(), kind)?, "kind {kind}");
+fn too_long(rt: HostRuntime) {
+    for (kind, length) in TOO_LONG {
+        assert!(rt; is_too_long(rt.alloc(), *kind, *length), "{kind}");
     }
-    assert!(rt; is_too_long_in(rt.alloc(), 257, true)?);
-    assert!(rt; is_too_long_in(rt.alloc(), 262_132, false)?);
-    Ok(())
 }
 
-/// Whether a request for the extension of that name, as if it were not known, is refused with that error.
-fn is_hidden(
-    alloc: Global,
-    name: &[u8],
-    length: usize,
-    expected: WireError,
-) -> Result<bool, AllocError> {
-    let name = text(alloc, name)?;
-    let rest = long(alloc, length)?;
-    Ok(is_refused(alloc, request(1, Ask::Unknown { name, rest }), expected))
+/// A request for the extension of that name, as if it were not known, with so many bytes after it.
+fn hidden(alloc: Global, name: ByteString, length: usize) -> Option<Packet> {
+    match long(alloc, length) {
+        Ok(rest) => Some(request(1, Ask::Unknown { name, rest })),
+        Err(_) => {
+            drop(name);
+            None
+        }
+    }
+}
+
+/// Whether it is refused with that error.
+fn is_hidden(alloc: Global, name: &[u8], length: usize, expected: WireError) -> bool {
+    let packet = match ByteString::from_slice(alloc, name) {
+        Ok(name) => hidden(alloc, name, length),
+        Err(_) => None,
+    };
+    match packet {
+        Some(packet) => is_refused(alloc, packet, expected),
+        None => false,
+    }
 }
 
 /// Names of known extensions, so many bytes after them, and the error. As an unknown one such a packet is not
@@ -93,12 +113,13 @@ const HIDDEN: &[(&[u8], usize, WireError)] = &[
 ];
 
 #[test]
-fn known_extensions_as_unknown_ones(rt: HostRuntime) -> Result<(), Fail> {
+fn known_extensions_as_unknown_ones(rt: HostRuntime) {
     for (name, length, expected) in HIDDEN {
-        let hidden = is_hidden(rt.alloc(), name, *length, *expected)?;
-        assert!(rt; hidden, "{name:?} and {length} bytes");
+        assert!(rt;
+            is_hidden(rt.alloc(), name, *length, *expected),
+            "{length}: {name:?}"
+        );
     }
-    Ok(())
 }
 
 /// Errors that no session shows, and their texts.
@@ -115,47 +136,43 @@ const TEXTS: &[(WireError, &str)] = &[
     (WireError::NoMemory, "NoMemory"),
 ];
 
-#[test]
-fn texts(rt: HostRuntime) -> Result<(), Fail> {
-    for (error, expected) in TEXTS {
-        let text = format!(in rt.alloc(); "{error}")?;
-        assert!(rt; text.as_str() == *expected, "{expected}");
+/// Whether an error has this text.
+fn says(alloc: Global, error: WireError, expected: &str) -> bool {
+    match format!(in alloc; "{error}") {
+        Ok(text) => text.as_str() == expected,
+        Err(_) => false,
     }
-    Ok(())
-}
-
-/// RMDIR after other bytes.
-fn writes_behind(alloc: Global) -> Result<bool, AllocError> {
-    let before = Vec::from_slice(alloc, KEPT)?;
-    let path = text(alloc, b"/a")?;
-    let (said, out) = written(before, request(1, Ask::Rmdir { path }));
-    Ok(said == Ok(()) && out.as_slice() == b"kept\0\0\0\x0b\x0f\0\0\0\x01\0\0\0\x02/a".as_slice())
-}
-
-/// DATA of 262,144 bytes in all, the most that a packet has.
-fn writes_longest(alloc: Global) -> Result<bool, AllocError> {
-    let answer = Answer::Data(long(alloc, 262_131)?);
-    let (said, out) = written(Vec::new(alloc), reply(1, answer));
-    Ok(said == Ok(()) && out.len() == 262_144)
-}
-
-/// STATUS with texts.
-fn writes_status(alloc: Global) -> Result<bool, AllocError> {
-    let message = text(alloc, b"Failure")?;
-    let language = text(alloc, b"en")?;
-    let answer = Answer::Status {
-        code: 4,
-        message,
-        language,
-    };
-    let (said, out) = written(Vec::new(alloc), reply(16, answer));
-    let bytes = b"\0\0\0\x1a\x65\0\0\0\x10\0\0\0\x04\0\0\0\x07Failure\0\0\0\x02en".as_slice();
-    Ok(said == Ok(()) && out.as_slice() == bytes)
 }
 
 #[test]
-fn packets_that_are_written(rt: HostRuntime) -> Result<(), Fail> {
-    let alloc = rt.alloc();
-    assert!(rt; writes_behind(alloc)? && writes_longest(alloc)? && writes_status(alloc)?);
-    Ok(())
+fn texts(rt: HostRuntime) {
+    for (error, expected) in TEXTS {
+        assert!(rt; says(rt.alloc(), *error, expected), "{expected}");
+    }
+}
+
+/// RMDIR of `/a`, and its packet behind other bytes.
+const RMDIR: &[u8] = b"\x0f\0\0\0\x02/a";
+
+const RMDIR_BEHIND: &[u8] = b"kept\0\0\0\x0b\x0f\0\0\0\x01\0\0\0\x02/a";
+
+/// Whether a packet is written behind other bytes as these.
+fn is_behind(alloc: Global, packet: Packet, bytes: &[u8]) -> bool {
+    let mut before = Vec::new(alloc);
+    let is_kept = before.extend_from_slice(KEPT).is_ok();
+    let (said, out) = written(before, packet);
+    is_kept && said == Ok(()) && out.as_slice() == bytes
+}
+
+fn writes_behind(alloc: Global) -> bool {
+    match request_of(alloc, 1, RMDIR) {
+        Ok(asked) => is_behind(alloc, Packet::Request(asked), RMDIR_BEHIND),
+        Err(_) => false,
+    }
+}
+
+/// Cases have packets of each kind and of the greatest length.
+#[test]
+fn packets_that_are_written(rt: HostRuntime) {
+    assert!(rt; writes_behind(rt.alloc()));
 }
