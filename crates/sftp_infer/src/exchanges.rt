@@ -2,7 +2,7 @@
 
 use sftp_path::NoMemory;
 use sftp_transcript::{OPENING, WINDOW};
-use sftp_wire::{Answer, Ask, Packet, Side, front};
+use sftp_wire::{Answer, Ask, Packet, Side, WireError, front};
 use std::alloc::Global;
 use std::collections::VecDeque;
 
@@ -196,6 +196,7 @@ impl Exchanges {
                 self.end = self.end.saturating_add(length).saturating_add(1);
                 self.take(packet)
             }
+            Err(WireError::NoMemory) => Err(NoMemory),
             _ => Ok(false),
         }
     }
