@@ -2,10 +2,10 @@
 ghost use Rattle.sftp_verdicts.specs.Verdicts.{IsAuditStatus};
 
 use sftp_audit::Refusal;
-use sftp_files::{Ending, Failure, print, write_flushed};
+use sftp_files::{Ending, Failure, print, report, write_flushed};
 use sftp_infer::{Candidate, Clash, Excess, Fact, Says, Search, Sort, What};
 use sftp_show::{Quoted, find_record, last_of_id, put_record};
-use sftp_transcript::{Memory, Reader};
+use sftp_transcript::{Memory, Reader, TranscriptError};
 use sftp_wire::Side;
 use std::alloc::Global;
 use std::fmt;
@@ -232,23 +232,50 @@ fn other_words(what: What) -> &'static str {
     }
 }
 
-/// Writes both records of the contradiction that came last, what each told, and how many passes were tried.
+/// Writes both records of the contradiction that came last, what each told, and how many passes were tried. If memory
+/// runs out, it says so, and no more.
 pub(crate) fn put_clash<E: Write>(
     alloc: Global,
     session: &[u8],
     search: &Search<'_>,
     errors: &mut E,
 ) {
-    if let Some(clash) = search.clash() {
-        if clash.told != 0 {
-            put_exchange(alloc, session, "told", clash.told, errors);
-            let told = Told(clash);
-            let _ = write_flushed(errors, format_args!("told: {told}\n"));
+    let put = match search.clash() {
+        Some(clash) => {
+            put_told(alloc, session, clash, errors) && put_found(alloc, session, clash, errors)
         }
-        put_exchange(alloc, session, "found", clash.found, errors);
+        None => true,
+    };
+    if put {
+        put_end(search, errors);
+    }
+}
+
+/// Writes the earlier record of a contradiction, if there is one, and what it told. Returns whether memory sufficed.
+fn put_told<E: Write>(alloc: Global, session: &[u8], clash: &Clash, errors: &mut E) -> bool {
+    if clash.told == 0 {
+        return true;
+    }
+    let put = put_exchange(alloc, session, "told", clash.told, errors);
+    if put {
+        let told = Told(clash);
+        let _ = write_flushed(errors, format_args!("told: {told}\n"));
+    }
+    put
+}
+
+/// Writes the record of a contradiction at which it was found, and what it says. Returns whether memory sufficed.
+fn put_found<E: Write>(alloc: Global, session: &[u8], clash: &Clash, errors: &mut E) -> bool {
+    let put = put_exchange(alloc, session, "found", clash.found, errors);
+    if put {
         let otherwise = Otherwise(clash);
         let _ = write_flushed(errors, format_args!("found: {otherwise}\n"));
     }
+    put
+}
+
+/// Writes how many passes were tried, what that means, and how to look closer.
+fn put_end<E: Write>(search: &Search<'_>, errors: &mut E) {
     let passes = search.passes();
     let _ = write_flushed(
         errors,
@@ -272,58 +299,102 @@ fn put_hint<E: Write>(clash: &Clash, errors: &mut E) {
     );
 }
 
-/// Writes the line of a record, if it can be found; before it that of the request that it answers.
+/// Writes the line of a record, if it can be found; before it that of the request that it answers. If memory runs out,
+/// it says so and returns `false`.
 pub(crate) fn put_exchange<E: Write>(
     alloc: Global,
     session: &[u8],
     label: &str,
     number: u64,
     errors: &mut E,
-) {
-    if let Some(asked) = request_of(alloc, session, number) {
-        put_line(alloc, session, "asked", asked, errors);
+) -> bool {
+    match put_lines(alloc, session, label, number, errors) {
+        Err(TranscriptError::NoMemory) => {
+            report(errors, &Failure::OutOfMemory);
+            false
+        }
+        _ => true,
     }
-    put_line(alloc, session, label, number, errors);
+}
+
+/// Writes the line of a record, and before it that of the request that it answers, as far as they can be found.
+fn put_lines<E: Write>(
+    alloc: Global,
+    session: &[u8],
+    label: &str,
+    number: u64,
+    errors: &mut E,
+) -> Result<(), TranscriptError> {
+    if let Some(asked) = request_of(alloc, session, number)? {
+        put_line(alloc, session, "asked", asked, errors)?;
+    }
+    put_line(alloc, session, label, number, errors)
 }
 
 /// The number of the request that this record answers, if it is a reply and both can be found.
-fn request_of(alloc: Global, session: &[u8], number: u64) -> Option<u64> {
-    let (side, id) = head_of(alloc, session, number)?;
-    if side == Side::Client {
-        return None;
+fn request_of(alloc: Global, session: &[u8], number: u64) -> Result<Option<u64>, TranscriptError> {
+    match head_of(alloc, session, number)? {
+        Some((Side::Server, id)) => last_request(alloc, session, id, number),
+        _ => Ok(None),
     }
-    let mut reader = Reader::new(alloc, Memory::new(session)).ok()?;
+}
+
+/// The number of the last request with this id before a record.
+fn last_request(
+    alloc: Global,
+    session: &[u8],
+    id: u32,
+    number: u64,
+) -> Result<Option<u64>, TranscriptError> {
+    let mut reader = Reader::new(alloc, Memory::new(session))?;
     let last = last_of_id(&mut reader, Side::Client, id, number);
     drop(reader);
-    last.ok()?
+    last
 }
 
 /// Who sent a record, and its id, if it has one and can be found.
-fn head_of(alloc: Global, session: &[u8], number: u64) -> Option<(Side, u32)> {
-    let mut reader = Reader::new(alloc, Memory::new(session)).ok()?;
+fn head_of(
+    alloc: Global,
+    session: &[u8],
+    number: u64,
+) -> Result<Option<(Side, u32)>, TranscriptError> {
+    let mut reader = Reader::new(alloc, Memory::new(session))?;
     let found = find_record(&mut reader, number);
     drop(reader);
-    match found {
-        Ok(Some(record)) => {
-            let (side, id) = (record.side, record.id());
-            drop(record);
-            Some((side, id?))
-        }
-        Ok(None) => None,
-        Err(_) => None,
-    }
+    let head = match &found {
+        Ok(Some(record)) => match record.id() {
+            Some(id) => Ok(Some((record.side, id))),
+            None => Ok(None),
+        },
+        Ok(None) => Ok(None),
+        Err(error) => Err(*error),
+    };
+    drop(found);
+    head
 }
 
 /// Writes the line of a record, if it can be found.
-fn put_line<E: Write>(alloc: Global, session: &[u8], label: &str, number: u64, errors: &mut E) {
+fn put_line<E: Write>(
+    alloc: Global,
+    session: &[u8],
+    label: &str,
+    number: u64,
+    errors: &mut E,
+) -> Result<(), TranscriptError> {
     if number == 0 {
-        return;
+        return Ok(());
     }
-    if let Ok(mut reader) = Reader::new(alloc, Memory::new(session)) {
-        if let Ok(Some(found)) = find_record(&mut reader, number) {
-            let _ = put_record(label, &found, errors);
-            drop(found);
+    let mut reader = Reader::new(alloc, Memory::new(session))?;
+    let found = find_record(&mut reader, number);
+    drop(reader);
+    let put = match &found {
+        Ok(Some(record)) => {
+            let _ = put_record(label, record, errors);
+            Ok(())
         }
-        drop(reader);
-    }
+        Ok(None) => Ok(()),
+        Err(error) => Err(*error),
+    };
+    drop(found);
+    put
 }

@@ -139,7 +139,7 @@ fn report<'a, R: System, O: Write, E: Write>(
 }
 
 /// Says that the records of a session do not pair off, and how it can be judged if it was cut; shows where if that is
-/// asked for.
+/// asked for. If memory runs out for that, it says so, and no more.
 fn report_unpaired<'a, O: Write, E: Write>(
     alloc: Global,
     options: &InferOptions<'a>,
@@ -155,10 +155,9 @@ fn report_unpaired<'a, O: Write, E: Write>(
         return print_untold(record, 0, output);
     }
     put_refusal(refusal, output)?;
-    if options.explains {
-        put_exchange(alloc, session, "found", record, errors);
+    if !options.explains || put_exchange(alloc, session, "found", record, errors) {
+        put_way(refusal, errors);
     }
-    put_way(refusal, errors);
     Ok(Ending::Refused)
 }
 
