@@ -5,6 +5,7 @@ ghost use Rattle.sftp_files.specs.declared.messages.Ending.TheVariants as ending
 use crate::cuts::{limit_of, print_lines};
 use crate::showing::outcome;
 use crate::trees::{is_read_again, rows_of};
+use bstr::ByteSlice;
 use sftp_files::{Ending, Failure, ShowOptions, open, read_at_most};
 use sftp_text::{ShowFault, put_entry, put_head, put_record, put_root};
 use sftp_transcript::{OPENING, TranscriptError};
@@ -171,9 +172,10 @@ struct Lines<'o, O> {
 }
 
 impl<O: Write> Lines<'_, O> {
-    /// Prints the lines, so that there are none.
+    /// Prints the lines, so that there are none. One that did not come to its end is left out, since memory ran out.
     fn print<'a>(&mut self) -> Result<(), Failure<'a>> {
-        let printed = print_lines(self.output, self.limit, self.text.as_slice());
+        let lines = whole_lines(self.text.as_slice());
+        let printed = print_lines(self.output, self.limit, lines);
         self.text.clear();
         printed
     }
@@ -190,6 +192,14 @@ impl<O: Write> Lines<'_, O> {
             Ok(()) => Ok(()),
             Err(failure) => Err(Stop::Failed(failure)),
         }
+    }
+}
+
+/// The lines that come to their end.
+fn whole_lines(text: &[u8]) -> &[u8] {
+    match text.rfind_byte(b'\n') {
+        Some(last) => &text[..last + 1],
+        None => &[],
     }
 }
 
