@@ -12,10 +12,17 @@ use sftp_audit::Refusal;
 use sftp_commands::is_lost;
 use sftp_files::{Ending, Failure, Keeping, System, print, read_at_most, write};
 use sftp_infer::{Excess, Search, Settings, TreeText};
+use sftp_path::{DEPTH_LIMIT, NoMemory, place_of_text};
 use sftp_profile::Profile;
 use sftp_verdicts::{InferOptions, TRANSCRIPT_LOST, record_of, umask_of, with_umask};
 use std::alloc::Global;
 use std::io::Write;
+
+/// Why both trees are not written.
+const START_LOST: &str = "'--out' names the file of the tree at the start";
+
+/// Why no tree is looked for with a home.
+const WRONG_HOME: &str = "'--home' is no absolute path without '.', '..' and needless '/'";
 
 /// The passes of a search, without an option.
 const PASSES: u32 = 300;
@@ -32,8 +39,8 @@ pub fn infer<'a, R: System, O: Write, E: Write>(
 ) -> Result<Ending, Failure<'a>>
     ensures { IsAuditStatus result }
 {
-    if loses_transcript(rt, options) {
-        return Err(Failure::of_misuse(rt.alloc(), TRANSCRIPT_LOST));
+    if let Some(why) = misuse_of(rt, options)? {
+        return Err(Failure::of_misuse(rt.alloc(), why));
     }
     let umask = umask_of(rt.alloc(), options.umask)?;
     let mut options = *options;
@@ -45,6 +52,43 @@ pub fn infer<'a, R: System, O: Write, E: Write>(
             ending
         }
         Err(failure) => Err(failure),
+    }
+}
+
+/// Why options cannot be meant so, if they cannot.
+fn misuse_of<R: System>(
+    rt: &R,
+    options: &InferOptions<'_>,
+) -> Result<Option<&'static str>, NoMemory> {
+    if loses_transcript(rt, options) {
+        return Ok(Some(TRANSCRIPT_LOST));
+    }
+    if loses_start(rt, options) {
+        return Ok(Some(START_LOST));
+    }
+    match options.home {
+        Some(home) if !is_home(rt.alloc(), home)? => Ok(Some(WRONG_HOME)),
+        _ => Ok(None),
+    }
+}
+
+/// Whether the tree at the end would be written over the one at the start.
+fn loses_start<R: System>(rt: &R, options: &InferOptions<'_>) -> bool {
+    match (options.out, options.tree) {
+        (Some(out), Some(tree)) => out == tree || is_lost(rt, Some(out), Some(tree)),
+        _ => false,
+    }
+}
+
+/// Whether a tree can have this home.
+fn is_home(alloc: Global, text: &str) -> Result<bool, NoMemory> {
+    match place_of_text(alloc, text.as_bytes())? {
+        Some(place) => {
+            let depth = place.depth();
+            drop(place);
+            Ok(depth <= DEPTH_LIMIT)
+        }
+        None => Ok(false),
     }
 }
 
