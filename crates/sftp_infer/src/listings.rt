@@ -4,7 +4,7 @@ use crate::attributes::{PERMISSIONS, sort_of};
 use crate::errors::{Stop, What};
 use crate::handles::Opened;
 use crate::names::{Named, Spot};
-use crate::nodes::{Held, Node, Slot, Sort};
+use crate::nodes::{Held, Node, Slot};
 use crate::world::World;
 use sftp_path::{is_dot, is_dot_dot, is_name};
 use sftp_wire::{NameItem, Names};

@@ -255,14 +255,11 @@ impl<'a> Search<'a> {
 
     /// Takes that an audit refused the last tree at this record, with no reason that a pass knows: refusals before it
     /// may have other reasons.
-    pub fn refuse(&mut self, found: u64) {
-        let guesses = std::mem::replace(&mut self.guesses, Vec::new(self.alloc));
-        let last = self.last;
-        let cost = self.choices.cost(last);
-        let _ = self
-            .choices
-            .guess_otherwise(last, cost, guesses.as_slice(), found, false);
-        drop(guesses);
+    ///
+    /// # Errors
+    ///
+    /// `NoMemory` if memory runs out.
+    pub fn refuse(&mut self, found: u64) -> Result<(), NoMemory> {
         if found > self.furthest {
             let clash = Clash {
                 told: 0,
@@ -272,6 +269,22 @@ impl<'a> Search<'a> {
                 texts: None,
             };
             self.set_clash(found, Some(clash));
+        }
+        self.guess_before(found)
+    }
+
+    /// Adds choices in which refusals before this record have other reasons.
+    fn guess_before(&mut self, found: u64) -> Result<(), NoMemory> {
+        let guesses = std::mem::replace(&mut self.guesses, Vec::new(self.alloc));
+        let last = self.last;
+        let cost = self.choices.cost(last);
+        let next = self
+            .choices
+            .guess_otherwise(last, cost, guesses.as_slice(), found, false);
+        drop(guesses);
+        match next {
+            Ok(_) => Ok(()),
+            Err(error) => Err(error),
         }
     }
 }

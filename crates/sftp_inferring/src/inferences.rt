@@ -210,7 +210,7 @@ pub(crate) fn find<'a>(
 {
     for _ in 0..TREES {
         match next_judged(how, session, search)? {
-            Found::Unfit(number) => search.refuse(number),
+            Found::Unfit(number) => search.refuse(number)?,
             found => return Ok(found),
         }
     }
