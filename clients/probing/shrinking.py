@@ -130,6 +130,9 @@ class Shrinker:
                 if groups.key_of(difference) == self.group.key:
                     self.best = Shown(steps, tree, difference)
                     return self.best
+            if self.until.is_set():
+                # the audits may have ended before that of the difference
+                raise Stopped()
         return None
 
     def without_tail(self, shown):

@@ -22,6 +22,7 @@ import apart  # noqa: E402 (the folder above is not searched before)
 import folders  # noqa: E402
 import mounts  # noqa: E402
 import streams  # noqa: E402
+from probing.program import NotBuilt  # noqa: E402
 from recording import ending, temporary  # noqa: E402
 from recording.notices import printable  # noqa: E402
 from recording.standard import begin  # noqa: E402
@@ -63,7 +64,7 @@ def folder_of(arguments, package, program):
         fail(f"{program} is not there: apt-get install {package}")
     try:
         return folders.Folder(arguments[1])
-    except temporary.Unfit as error:
+    except (temporary.Unfit, NotBuilt) as error:
         return fail(error)
     except (OSError, folders.Bad) as error:
         return fail(f"{arguments[1]}: {error}")
