@@ -4,16 +4,18 @@ import fcntl
 import os
 import resource
 import select
+import signal
 import subprocess
 import sys
 import time
 from contextlib import suppress
 from typing import List, Optional, Sequence
 
-from nights.records import Copy, Failed, NotTaken, Numbers, Spool
+from nights import accepting
+from nights.records import NEW, Copy, Failed, NotTaken, Numbers, Spool
 from paging import packets
 from probing import program
-from recording import ways
+from recording import ending, ways
 
 TREE = os.path.join(program.CLIENTS, "tree")
 # How many lines are printed of a comparison or of what a folder has that no tree holds, and how many of a refusal.
@@ -23,7 +25,7 @@ SHARE = 3
 # The least that an address space is bounded by: the program itself has to be loaded.
 LEAST_SPACE = 1 << 28
 # What ended runs and audits may have left in the folder of a user.
-LEFT = ("tree.after", "tree.now", ".sftpv3-", "record.new")
+LEFT = ("tree.after", "tree.now", ".sftpv3-", NEW)
 # How many times it is looked again, if a session runs and ends meanwhile.
 LOOKS = 3
 # How many times records are looked for, of which each time nights.records.MOST are taken, before the rest has to wait.
@@ -53,6 +55,10 @@ def said_beside(record, others):
     return f" (beside {', '.join(beside[:NAMED])}{more})" if beside else ""
 
 
+class Unsaid(Exception):
+    """Standard output does not take what is said, so nothing more is judged."""
+
+
 class Night:
     """One run for one user."""
 
@@ -76,6 +82,8 @@ class Night:
             fcntl.flock(self.held, fcntl.LOCK_EX | fcntl.LOCK_NB)
         except BlockingIOError:
             raise Failed(f"another run for {given.user} has not ended") from None
+        accepting.finish(self.spool, self.tree)
+        accepting.tidy()
         self.tidy()
 
     def tidy(self):
@@ -86,7 +94,11 @@ class Night:
 
     def say(self, text, status=0):
         """Prints a line. Names in it may have been chosen by a user."""
-        print(packets.line(f"{self.given.user}: {text}"), flush=True)
+        try:
+            print(packets.line(f"{self.given.user}: {text}"), flush=True)
+        except OSError:
+            # what is left is to be said at the end, and then it is said why not
+            raise Unsaid() from None
         self.status = max(self.status, status)
 
     def run_program(self, most, *words, **options):
@@ -115,8 +127,8 @@ class Night:
         first, *more = named(found.lines(), f"/proc/self/fd/{copy.file}", name) or [""]
         if found.status == 0:
             self.say(f"{name}: {first}{note}")
-            copy.keep("accepted")
-            os.replace(after, self.tree)
+            with ending.put_off():
+                accepting.accept(copy, after, self.tree)
             self.accepted += 1
             self.cut += " unanswered" in first
             return
@@ -136,6 +148,11 @@ class Night:
         self.put_aside(copy, "unjudged")
 
     def put_aside(self, copy, kind, verdict=()):
+        """The same, whatever signal comes meanwhile."""
+        with ending.put_off():
+            self.put_aside_now(copy, kind, verdict)
+
+    def put_aside_now(self, copy, kind, verdict):
         """Keeps a record that is not accepted, with its verdict. What comes behind it has no tree to start from."""
         with suppress(FileNotFoundError):
             os.remove(self.tree)
@@ -368,24 +385,29 @@ def run(words: Sequence[str], most: int, seconds: float, space: Optional[int] = 
     after so many seconds, when it is killed."""
     told, deadline = Told(most), time.monotonic() + seconds
     limit = None if space is None else lambda: within(space)
-    running = subprocess.Popen(words, stdin=subprocess.DEVNULL, stdout=subprocess.PIPE, stderr=subprocess.STDOUT,
-                               bufsize=0, pass_fds=pass_fds, preexec_fn=limit)
-    try:
-        while data := read(running.stdout.fileno(), deadline - time.monotonic(), words, seconds):
-            told.take(data)
-        told.status = running.wait(max(0, deadline - time.monotonic()))
-    except BaseException:
-        kill(running)
-        raise
-    finally:
-        running.stdout.close()
+    with ending.put_off() as go_on:
+        # in a session of its own, so that a terminal's SIGINT does not end it
+        running = subprocess.Popen(words, stdin=subprocess.DEVNULL, stdout=subprocess.PIPE, stderr=subprocess.STDOUT,
+                                   bufsize=0, pass_fds=pass_fds, preexec_fn=limit, start_new_session=True)
+        try:
+            go_on()
+            while data := read(running.stdout.fileno(), deadline - time.monotonic(), words, seconds):
+                told.take(data)
+            told.status = running.wait(max(0, deadline - time.monotonic()))
+        except BaseException:
+            kill(running)
+            raise
+        finally:
+            running.stdout.close()
     told.end()
     return told
 
 
 def kill(running: subprocess.Popen) -> None:
-    """Ends a process. One that the kernel does not let end, since a file system does not answer, is left behind."""
-    running.kill()
+    """Ends a process, with what it started. One that the kernel does not let end, since a file system does not answer,
+    is left behind."""
+    with suppress(ProcessLookupError):
+        os.killpg(running.pid, signal.SIGKILL)
     with suppress(subprocess.TimeoutExpired):
         running.wait(LEFT_BEHIND)
 

@@ -232,6 +232,8 @@ class Spool:
         return heapq.nsmallest(MOST, self.found(), key=lambda it: (it.start, it.end, it.name))
 
 
+# The name of a copy until it is kept.
+NEW = "record.new"
 # The longest name under which a record is kept. A verdict has eight characters more, and a number may come behind both.
 LONGEST_NAME = 200
 # For how many names it is held how often they were taken.
@@ -303,7 +305,7 @@ class Copy:
     """The copy of a record, in a folder that only root can enter: under a name of its own until it is kept."""
 
     def __init__(self, folder, record, numbers):
-        self.folder, self.record, self.place = folder, record, os.path.join(folder, "record.new")
+        self.folder, self.record, self.place = folder, record, os.path.join(folder, NEW)
         self.numbers = numbers
         self.file = os.open(self.place, MADE, 0o600)
         try:

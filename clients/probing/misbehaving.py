@@ -386,8 +386,9 @@ def write(target, data):
         view = view[os.write(target, view):]
 
 
-def main():
-    kind = globals()[sys.argv[1].replace("-", "_")]()
+def main(kinds):
+    """Is the server of one of these classes, by the command line."""
+    kind = kinds[sys.argv[1].replace("-", "_")]()
     with subprocess.Popen(sys.argv[2:], stdin=subprocess.PIPE, stdout=subprocess.PIPE, bufsize=0) as server:
         replies = packets_of(server.stdout.fileno())
         for packet in packets_of(0):
@@ -402,4 +403,4 @@ def main():
 
 
 if __name__ == "__main__":
-    main()
+    main(globals())

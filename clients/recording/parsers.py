@@ -1,16 +1,20 @@
 """The command lines of sftpv3-record and sftpv3-recordd: options, help and complaints, by argparse;
 complaints of all scripts about theirs."""
 import argparse
+from contextlib import suppress
 
 from recording.notices import printable
 from recording.options import AUDIT_FLAGS, AUDIT_MEMORY, AUDIT_VALUES, GRACE, NAME
 
 
 class Parser(argparse.ArgumentParser):
-    """A parser whose complaints show what it was given as one line that does nothing to a terminal."""
+    """A parser whose complaints show what it was given as one line that does nothing to a terminal. Where nobody can be
+    told, the status is the same."""
 
     def error(self, message):
-        super().error(printable(message))
+        with suppress(OSError):
+            super().error(printable(message))
+        self.exit(2)
 
 
 RECORD_NOTES = """\

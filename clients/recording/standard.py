@@ -1,5 +1,7 @@
 """How every script begins, whatever started it: with three standard descriptors, and with signals as they are usually;
 and that other processes of the same user may neither trace it nor open its memory and files."""
+from __future__ import annotations
+
 import os
 import sys
 
@@ -35,6 +37,30 @@ def open_nothing():
         os.set_inheritable(os.open(os.devnull, os.O_RDWR), True)
     except OSError:
         os._exit(3)
+
+
+def end(main, tell, failed: int = 3) -> int:
+    """Calls the main function of a script, and gives the status that it gives or ends with. Where standard output did
+    not take what was printed, `tell` gets why, and the status is `failed`."""
+    try:
+        status = main()
+    except SystemExit as ended:
+        status = ended.code
+    why = left_unsaid(sys.stdout)
+    if why:
+        tell(f"standard output: {why}")
+    left_unsaid(sys.stderr)
+    return failed if why else status
+
+
+def left_unsaid(stream) -> str | None:
+    """Why a stream did not take all that was printed, or None. What it did not take is not printed at the end."""
+    try:
+        stream.flush()
+    except OSError as error:
+        os.dup2(os.open(os.devnull, os.O_WRONLY), stream.fileno())
+        return error.strerror
+    return None
 
 
 # PR_SET_DUMPABLE of Linux.

@@ -36,6 +36,11 @@ def shown(path):
     return packets.quoted(path, 200)
 
 
+def to_no_request(count):
+    replies, are = ("reply", "is") if count == 1 else ("replies", "are")
+    return f"{count:,} {replies} of the server {are} to no request"
+
+
 class Notes:
     """What was not looked at, or cannot be in a tree file, and why. The first of them are printed at once."""
 

@@ -234,6 +234,12 @@ class NotInferred(Exception):
     """`sftpv3 infer` ended, and not with a tree or with the words that there is none."""
 
 
+def told_by(*streams):
+    """What the program said, behind a colon, if it said something."""
+    lines = [line.removeprefix("sftpv3: ") for stream in streams for line in stream.splitlines() if line]
+    return ": " + "; ".join(lines) if lines else ""
+
+
 def can_infer(program):
     """Whether the program has the subcommand: older ones have not."""
     return subprocess.run([program, "help", "infer"], stdin=subprocess.DEVNULL, capture_output=True,
@@ -251,5 +257,5 @@ def infer(program, transcript, tree, words=(), memory=MEMORY, stop=None):
         more = "".join(f"; {line}" for line in lines if line.startswith("no tree: "))
         raise NotInferred(f"`sftpv3 infer` needs more than {memory:,} bytes of memory (--memory){more}")
     if done.returncode not in (0, 1):
-        raise NotInferred(f"`sftpv3 infer` ended {servers.ending(done.returncode)}: {said} {why}".rstrip())
+        raise NotInferred(f"`sftpv3 infer` ended {servers.ending(done.returncode)}{told_by(said, why)}")
     return done.returncode == 0, said, why

@@ -16,8 +16,9 @@ WRITTEN, NO_TREE, BAD_USAGE, NOT_WRITTEN = range(4)
 # How many requests are in flight, unless it is told otherwise.
 IN_FLIGHT = 64
 
-# The profile that says what a server may do, unless it is told otherwise, and the word for none.
-PROFILE, STRICT = "posix", "strict"
+# The profile that says what a server may do, unless it is told otherwise, the word for none, and the profile by which
+# it may deny what it likes.
+PROFILE, STRICT, OF_USERS = "posix", "strict", "posix-user"
 
 
 def count(text):

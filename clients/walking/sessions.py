@@ -42,13 +42,15 @@ class Task:
 class Session:
     """A session with a server that runs. `record` gets its packets, as recording.sinks.FileSink does; `timeout` is how
     many seconds it waits for a reply; `most` is how many bytes all that passes may have together, since a record
-    keeps it. Once `stop` is set, it raises servers.Stopped."""
+    keeps it. Once `stop` is set, it raises servers.Stopped. With `by_letter` it ends at a packet with which no program
+    judges a record."""
 
-    def __init__(self, running, record, timeout, in_flight, most=bounds.PASSED, stop=None):
+    def __init__(self, running, record, timeout, in_flight, most=bounds.PASSED, stop=None, by_letter=False):
         self.running, self.record, self.in_flight, self.stop = running, record, in_flight, stop
+        self.by_letter = by_letter
         self.streams = servers.Streams(running)
         self.waiting, self.unanswered = deque(), {}
-        self.asked = self.unwanted = self.tasks = self.passed = 0
+        self.asked = self.unwanted = self.denied = self.tasks = self.passed = 0
         self.most = most
         self.ended = False
         self.timeout, self.patience, self.heard = timeout, timeout * OPENING, time.monotonic()
@@ -88,7 +90,8 @@ class Session:
         elif self.streams.wrong:
             raise Misbehaves(f"the server sent no packets: {self.streams.wrong}")
         elif self.ended:
-            raise Misbehaves("the server ended, or closed its output")
+            within = ", in the middle of a packet" if len(self.streams.arrived) else ""
+            raise Misbehaves(f"the server ended, or closed its output{within}")
         return found
 
     def open(self):
@@ -100,6 +103,8 @@ class Session:
             found = self.packets()
         try:
             number, _ = sftp3.version_of(found[0])
+            if self.by_letter:
+                check(found[0])
         except sftp3.Malformed as error:
             raise Misbehaves(f"the first packet of the server is not right: {error}") from None
         if number != 3:
@@ -155,25 +160,54 @@ class Session:
     def take(self, packet):
         try:
             reply = Reply(packet)
+            if reply.handle is not None and len(reply.handle) > bounds.HANDLE:
+                raise Misbehaves(f"a handle of the server has {len(reply.handle):,} bytes")
+            if self.by_letter:
+                check_reply(packet)
         except sftp3.Malformed as error:
             raise Misbehaves(f"a reply of the server is malformed: {error}") from None
-        if reply.handle is not None and len(reply.handle) > bounds.HANDLE:
-            raise Misbehaves(f"a handle of the server has {len(reply.handle):,} bytes")
         task, place = self.unanswered.pop(reply.number, (None, 0))
         if task is None:
             self.unwanted += 1
             if self.unwanted > UNWANTED:
-                raise Misbehaves(f"{self.unwanted} replies of the server are to no request")
+                raise Misbehaves(bounds.to_no_request(self.unwanted))
             return
         self.heard = time.monotonic()
+        self.denied += reply.code == sftp3.PERMISSION_DENIED
         if task.take(place, reply):
             self.go_on(task, task.replies)
 
     def close(self):
         """Lets the server end, and gives the last lines that it wrote to standard error."""
         self.streams.selector.close()
-        self.running.part(servers.PARTING, lambda data: bool(data))
+        self.running.part(servers.PARTING, self.streams.receive)
         return bytes(self.running.said).decode(errors="replace").splitlines()[-5:]
+
+    def take_last(self):
+        """Takes what came while the server ended: behind its last reply nothing should."""
+        found = list(iter(self.streams.next_packet, None))
+        self.count(found)
+        if found:
+            self.record.put_packets(b"S", found)
+        for packet in found:
+            self.take(packet)
+        rest = len(self.streams.arrived)
+        if rest:
+            raise Misbehaves(f"the server sent {rest:,} bytes behind its last reply that are no packet")
+
+
+def check(packet):
+    """Raises Malformed for what no packet of a server in a record may be."""
+    if len(packet) > sftp3.LONGEST:
+        raise sftp3.Malformed(f"it has {len(packet):,} bytes, more than the {sftp3.LONGEST:,} of any packet")
+    sftp3.read(sftp3.SERVER, packet)
+
+
+def check_reply(packet):
+    """The same for what is behind VERSION."""
+    if packet[4] == sftp3.VERSION:
+        raise sftp3.Malformed("it is a VERSION")
+    check(packet)
 
 
 # The bits of the permissions that say what an entry is, and the kinds that a tree has.
