@@ -159,13 +159,17 @@ class Session:
 
     def take(self, packet):
         try:
-            reply = Reply(packet)
-            if reply.handle is not None and len(reply.handle) > bounds.HANDLE:
-                raise Misbehaves(f"a handle of the server has {len(reply.handle):,} bytes")
+            self.hand_over(Reply(packet))
+            # behind what it told, which may be a plainer reason to end
             if self.by_letter:
                 check_reply(packet)
         except sftp3.Malformed as error:
             raise Misbehaves(f"a reply of the server is malformed: {error}") from None
+
+    def hand_over(self, reply):
+        """Gives a reply to the task that waits for it."""
+        if reply.handle is not None and len(reply.handle) > bounds.HANDLE:
+            raise Misbehaves(f"a handle of the server has {len(reply.handle):,} bytes")
         task, place = self.unanswered.pop(reply.number, (None, 0))
         if task is None:
             self.unwanted += 1
