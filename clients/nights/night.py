@@ -56,7 +56,7 @@ def said_beside(record, others):
 
 
 class Unsaid(Exception):
-    """Standard output does not take what is said, so nothing more is judged."""
+    """Standard output failed, so nothing more is judged."""
 
 
 class Night:
@@ -97,7 +97,7 @@ class Night:
         try:
             print(packets.line(f"{self.given.user}: {text}"), flush=True)
         except OSError:
-            # what is left is to be said at the end, and then it is said why not
+            # recording.standard.end says why, when it prints what is left
             raise Unsaid() from None
         self.status = max(self.status, status)
 

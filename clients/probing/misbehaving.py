@@ -387,7 +387,7 @@ def write(target, data):
 
 
 def main(kinds):
-    """Is the server of one of these classes, by the command line."""
+    """Runs the server whose class the command line names."""
     kind = kinds[sys.argv[1].replace("-", "_")]()
     with subprocess.Popen(sys.argv[2:], stdin=subprocess.PIPE, stdout=subprocess.PIPE, bufsize=0) as server:
         replies = packets_of(server.stdout.fileno())

@@ -8,8 +8,8 @@ from recording.options import AUDIT_FLAGS, AUDIT_MEMORY, AUDIT_VALUES, GRACE, NA
 
 
 class Parser(argparse.ArgumentParser):
-    """A parser whose complaints show what it was given as one line that does nothing to a terminal. Where nobody can be
-    told, the status is the same."""
+    """A parser whose complaints show what it was given as one line that does nothing to a terminal. If standard
+    error fails, the status is the same."""
 
     def error(self, message):
         with suppress(OSError):
