@@ -16,8 +16,8 @@ use crate::explaining::explain;
 use crate::going_on::report_findings;
 use crate::verdict_objects::print_refused;
 use sftp_audit::{AuditError, Ended, Refusal, audit_tree_by};
-use sftp_commands::{Kept, LeftOut, is_read_again, read_tree_in_view, write_tree};
-use sftp_files::{BoundedRecords, Ending, Failure, Meter, System, open, print, read_at_most};
+use sftp_commands::{LeftOut, read_tree_in_view, write_tree};
+use sftp_files::{BoundedRecords, Ending, Failure, Meter, Repeatable, System, open, print};
 use sftp_handles::{GivenTable, Session};
 use sftp_judges::Judges;
 use sftp_profile::{Judge, Profile};
@@ -63,46 +63,38 @@ fn audit_by<'a, R: System + Clock, O: Write, E: Write + IsTerminal>(
 ) -> Result<Ending, Failure<'a>>
     ensures { IsAuditStatus result }
 {
-    let goes_back = files.explains || files.keeps_going;
-    if goes_back && !is_read_again(rt, files.tree) {
-        return audit_keeping(rt, files, output, errors);
+    if !files.explains && !files.keeps_going {
+        return audit_at(rt, files, files.tree, output, errors);
     }
-    let kept = goes_back.then_some(Kept::File(files.tree));
-    let start = read_tree_in_view(rt, files.tree, files.memory, files.says_progress, errors)?;
-    audit_from(rt, files, start, kept, output, errors)
+    let tree = Repeatable::of(rt, files.tree, files.memory)?;
+    let ending = audit_at(rt, files, tree.path(), output, errors);
+    drop(tree);
+    ending
 }
 
-/// Audits a session whose tree file cannot be read twice, and keeps its bytes: what explains a refusal, and what goes
-/// on behind it, starts from the tree again.
-fn audit_keeping<'a, R: System + Clock, O: Write, E: Write + IsTerminal>(
+/// Audits a session whose tree file is read at this path. What explains a refusal, and what goes on behind it, reads it
+/// there again.
+fn audit_at<'a, R: System + Clock, O: Write, E: Write + IsTerminal>(
     rt: &R,
     files: &AuditOptions<'a>,
+    path: &str,
     output: &mut O,
     errors: &mut E,
 ) -> Result<Ending, Failure<'a>>
     ensures { IsAuditStatus result }
 {
-    let bytes = read_at_most(rt, files.tree, files.memory)?;
-    let start = Tree::read(rt.alloc(), bytes.as_slice());
-    let ending = audit_from(
-        rt,
-        files,
-        start,
-        Some(Kept::Bytes(bytes.as_slice())),
-        output,
-        errors,
-    );
-    drop(bytes);
-    ending
+    let is_asked = files.says_progress;
+    let start = read_tree_in_view(rt, files.tree, path, files.memory, is_asked, errors)?;
+    audit_from(rt, files, start, path, output, errors)
 }
 
-/// Audits a session that starts from this tree, unless its file has a fault. From here on `kept` says
-/// where the tree can be had again if an explanation is asked for, or what else is wrong.
+/// Audits a session that starts from this tree, unless its file has a fault. From here on `kept` is the path at which
+/// the tree is read again if an explanation is asked for, or what else is wrong.
 fn audit_from<'a, R: System + Clock, O: Write, E: Write + IsTerminal>(
     rt: &R,
     files: &AuditOptions<'a>,
     start: Result<Tree, TreeError>,
-    kept: Option<Kept<'_>>,
+    kept: &str,
     output: &mut O,
     errors: &mut E,
 ) -> Result<Ending, Failure<'a>>
@@ -129,7 +121,7 @@ fn audit_transcript<'a, F: Read + Drop, R: System + Clock, O: Write, E: Write + 
     rt: &R,
     files: &AuditOptions<'a>,
     start: Tree,
-    kept: Option<Kept<'_>>,
+    kept: &str,
     transcript: F,
     output: &mut O,
     errors: &mut E,
@@ -150,7 +142,7 @@ fn audit_within<'a, F: Read + Drop, R: System + Clock, O: Write, E: Write + IsTe
     rt: &R,
     files: &AuditOptions<'a>,
     start: Tree,
-    kept: Option<Kept<'_>>,
+    kept: &str,
     transcript: F,
     output: &mut O,
     errors: &mut E,
@@ -174,7 +166,7 @@ fn judge_as_asked<'a, F: Read + Drop, R: System + Clock, O: Write, E: Write + Is
     rt: &R,
     files: &AuditOptions<'a>,
     start: Tree,
-    kept: Option<Kept<'_>>,
+    kept: &str,
     transcript: F,
     output: &mut O,
     errors: &mut E,
@@ -196,7 +188,7 @@ fn judge_and_report<'a, F: Read + Drop, R: System + Clock, O: Write, E: Write + 
     rt: &R,
     files: &AuditOptions<'a>,
     start: Tree,
-    kept: Option<Kept<'_>>,
+    kept: &str,
     transcript: F,
     output: &mut O,
     errors: &mut E,
@@ -219,7 +211,7 @@ fn judge_and_report<'a, F: Read + Drop, R: System + Clock, O: Write, E: Write + 
 fn report<'a, R: System, O: Write, E: Write>(
     rt: &R,
     files: &AuditOptions<'a>,
-    kept: Option<Kept<'_>>,
+    kept: &str,
     judged: &Result<Ended, AuditError>,
     follows: bool,
     output: &mut O,
@@ -245,7 +237,7 @@ pub(crate) struct Finding {
 pub(crate) fn report_error<'a, R: System, O: Write, E: Write>(
     rt: &R,
     files: &AuditOptions<'a>,
-    kept: Option<Kept<'_>>,
+    kept: &str,
     error: AuditError,
     follows: bool,
     output: &mut O,
@@ -264,7 +256,7 @@ pub(crate) fn report_error<'a, R: System, O: Write, E: Write>(
 fn report_refusal<'a, R: System, O: Write, E: Write>(
     rt: &R,
     files: &AuditOptions<'a>,
-    kept: Option<Kept<'_>>,
+    kept: &str,
     refusal: Refusal,
     follows: bool,
     output: &mut O,
@@ -274,25 +266,20 @@ fn report_refusal<'a, R: System, O: Write, E: Write>(
     ensures err { IfErr result IsUnwritten }
 {
     let finding = Finding { refusal, follows };
-    match kept {
-        Some(tree) if files.keeps_going => {
-            report_findings(rt, files, tree, finding, output, errors)
-        }
-        Some(tree) => {
-            let mut left_out = LeftOut::new(rt.alloc());
-            let ending = report_finding(rt, files, tree, &mut left_out, finding, output, errors);
-            drop(left_out);
-            ending
-        }
-        None => refuse(files, finding, output),
+    if files.keeps_going {
+        return report_findings(rt, files, kept, finding, output, errors);
     }
+    let mut left_out = LeftOut::new(rt.alloc());
+    let ending = report_finding(rt, files, kept, &mut left_out, finding, output, errors);
+    drop(left_out);
+    ending
 }
 
 /// Says why a session of these files is refused where this is left out of it, and explains it if that is asked for.
 pub(crate) fn report_finding<'a, R: Files + AllocGlobal, O: Write, E: Write>(
     rt: &R,
     files: &AuditOptions<'a>,
-    tree: Kept<'_>,
+    tree: &str,
     left_out: &mut LeftOut,
     finding: Finding,
     output: &mut O,
@@ -315,7 +302,7 @@ pub(crate) fn report_finding<'a, R: Files + AllocGlobal, O: Write, E: Write>(
 fn refuse_as_object<'a, R: Files + AllocGlobal, O: Write>(
     rt: &R,
     files: &AuditOptions<'a>,
-    tree: Kept<'_>,
+    tree: &str,
     left_out: &mut LeftOut,
     finding: Finding,
     output: &mut O,

@@ -13,7 +13,6 @@ ghost use Rattle.sftp_auditing.specs.Audits.{IsStrictCutVerdict, IsCutVerdictUnd
 use crate::auditing::{keep_end, report_error};
 use crate::verdict_objects::print_accepted;
 use sftp_audit::{AuditError, EndedCut, audit_cut_tree_by};
-use sftp_commands::Kept;
 use sftp_files::{Ending, Failure, System, print};
 use sftp_handles::{GivenTable, Session};
 use sftp_judges::Judges;
@@ -73,7 +72,7 @@ pub(crate) fn judge_cut_and_report<
     rt: &R,
     files: &AuditOptions<'a>,
     start: Tree,
-    kept: Option<Kept<'_>>,
+    kept: &str,
     transcript: F,
     output: &mut O,
     errors: &mut E,
@@ -96,7 +95,7 @@ pub(crate) fn judge_cut_and_report<
 fn report_cut<'a, R: System, O: Write, E: Write>(
     rt: &R,
     files: &AuditOptions<'a>,
-    kept: Option<Kept<'_>>,
+    kept: &str,
     judged: &Result<EndedCut, AuditError>,
     follows: bool,
     output: &mut O,

@@ -9,7 +9,7 @@ mod unexplained;
 use crate::explaining::sought::Sought;
 use crate::explaining::unexplained::Unexplained;
 use sftp_audit::Refusal;
-use sftp_commands::{Kept, LeftOut};
+use sftp_commands::LeftOut;
 use sftp_files::write_flushed;
 use sftp_profile::Profile;
 use sftp_show::{Record, put_record};
@@ -24,7 +24,7 @@ use std::io::Write;
 pub(crate) fn explain<'s, 'a, R: Files + AllocGlobal, E: Write>(
     rt: &'s R,
     files: &'s AuditOptions<'a>,
-    tree: Kept<'s>,
+    tree: &'s str,
     left_out: &mut LeftOut,
     refusal: Refusal,
     errors: &mut E,
@@ -52,8 +52,8 @@ pub(crate) fn explain<'s, 'a, R: Files + AllocGlobal, E: Write>(
 struct Refused<'s, 'a, R> {
     rt: &'s R,
     files: &'s AuditOptions<'a>,
-    /// The tree that the session starts from.
-    tree: Kept<'s>,
+    /// The path of the tree that the session starts from.
+    tree: &'s str,
     refusal: Refusal,
 }
 

@@ -8,8 +8,8 @@ use crate::cut_sessions::Counts;
 use crate::totals::{End, Reason, Total, print_total};
 use sftp_audit::{AuditError, Auditor, Refusal};
 use sftp_commands::{
-    Asked, Bearing, Kept, LeftOut, Outcome, Replied, find_reply, is_harmless, is_request,
-    last_asked,
+    Asked, Bearing, LeftOut, Outcome, Replied, find_reply, is_harmless, is_request, last_asked,
+    read_tree_again,
 };
 use sftp_files::{BoundedRecords, Ending, Failure, Meter, System, open};
 use sftp_profile::{Judge, Profile};
@@ -28,7 +28,7 @@ const MOST: u64 = 100;
 pub(crate) fn report_findings<'a, R: System, O: Write, E: Write>(
     rt: &R,
     files: &AuditOptions<'a>,
-    tree: Kept<'_>,
+    tree: &str,
     first: Finding,
     output: &mut O,
     errors: &mut E,
@@ -46,7 +46,7 @@ pub(crate) fn report_findings<'a, R: System, O: Write, E: Write>(
 fn report_each<'a, R: System, O: Write, E: Write>(
     rt: &R,
     files: &AuditOptions<'a>,
-    tree: Kept<'_>,
+    tree: &str,
     left_out: &mut LeftOut,
     first: Finding,
     output: &mut O,
@@ -77,7 +77,7 @@ fn report_each<'a, R: System, O: Write, E: Write>(
 fn next_finding<R: System>(
     rt: &R,
     files: &AuditOptions<'_>,
-    tree: Kept<'_>,
+    tree: &str,
     left_out: &mut LeftOut,
     finding: Finding,
 ) -> Result<Finding, End> {
@@ -290,7 +290,7 @@ impl From<AuditError> for Halt {
 fn judge_rest<R: System>(
     rt: &R,
     files: &AuditOptions<'_>,
-    tree: Kept<'_>,
+    tree: &str,
     left_out: &mut LeftOut,
 ) -> Result<Finding, End> {
     let mut follows = true;
@@ -329,7 +329,7 @@ fn number_of<R: Files + AllocGlobal>(
 fn judge_file<R: System>(
     rt: &R,
     files: &AuditOptions<'_>,
-    tree: Kept<'_>,
+    tree: &str,
     left_out: &mut LeftOut,
     follows: &mut bool,
 ) -> Result<Counts, Halt> {
@@ -374,7 +374,7 @@ fn opened<F>(file: Result<F, Failure<'_>>) -> Result<F, End> {
 fn judge_source<R: Files + AllocGlobal, F: Read + Drop>(
     rt: &R,
     files: &AuditOptions<'_>,
-    tree: Kept<'_>,
+    tree: &str,
     left_out: &mut LeftOut,
     transcript: F,
     meter: &mut Meter,
@@ -397,7 +397,7 @@ fn judge_source<R: Files + AllocGlobal, F: Read + Drop>(
 fn judge_records<R: Files + AllocGlobal, T: Source>(
     rt: &R,
     files: &AuditOptions<'_>,
-    tree: Kept<'_>,
+    tree: &str,
     left_out: &mut LeftOut,
     records: &mut Reader<T>,
     follows: &mut bool,
@@ -419,10 +419,10 @@ fn judge_records<R: Files + AllocGlobal, T: Source>(
 fn new_auditor<R: Files + AllocGlobal>(
     rt: &R,
     files: &AuditOptions<'_>,
-    tree: Kept<'_>,
+    tree: &str,
 ) -> Result<Auditor<Judge>, AuditError> {
     let profile = files.profile.unwrap_or(Profile::strict());
-    match tree.read(rt) {
+    match read_tree_again(rt, tree) {
         Ok(tree) => match Auditor::<Judge>::by(profile, tree) {
             Ok(auditor) => Ok(auditor),
             Err(_no_memory) => Err(AuditError::NoMemory),

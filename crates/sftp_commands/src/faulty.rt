@@ -1,6 +1,6 @@
 //! What is known of a malformed file beside its fault: its name, and whether it is a file of another kind.
 
-use sftp_files::{Failure, Named, write_flushed};
+use sftp_files::{Failure, Named, is_read_again, write_flushed};
 use sftp_transcript::TranscriptError;
 use sftp_treefile::TreeError;
 use std::fs::Files;
@@ -175,7 +175,7 @@ fn is_at_opening(failure: &Failure<'_>) -> bool {
 /// What a file is, if that is known and the file can be read again. A pipe cannot.
 fn format_of_file<R: Files + AllocGlobal>(rt: &R, name: &str) -> Option<Format> {
     let mut start = Vec::new(rt.alloc());
-    let is_read = is_regular(rt, name) && is_start_read(rt, name, &mut start);
+    let is_read = is_read_again(rt, name) && is_start_read(rt, name, &mut start);
     let format = if is_read {
         format_of(start.as_slice())
     } else {
@@ -183,13 +183,6 @@ fn format_of_file<R: Files + AllocGlobal>(rt: &R, name: &str) -> Option<Format> 
     };
     drop(start);
     format
-}
-
-fn is_regular<R: Files>(rt: &R, name: &str) -> bool {
-    match fs::metadata(rt, name) {
-        Ok(found) => found.is_file(),
-        Err(_) => false,
-    }
 }
 
 /// Appends the first bytes of a file. Returns whether they could be read.

@@ -4,12 +4,12 @@ ghost use Rattle.sftp_files.specs.declared.messages.Ending.TheVariants as ending
 
 use crate::cuts::{limit_of, print_lines};
 use crate::showing::outcome;
-use crate::trees::{is_read_again, rows_of};
+use crate::trees::rows_of;
 use bstr::ByteSlice;
-use sftp_files::{Ending, Failure, ShowOptions, open, read_at_most};
+use sftp_files::{Ending, Failure, Repeatable, ShowOptions, System, open_at};
 use sftp_text::{ShowFault, put_entry, put_head, put_record, put_root};
 use sftp_transcript::{OPENING, TranscriptError};
-use sftp_treefile::{TreeError, TreeFile, read_rows};
+use sftp_treefile::{TreeError, TreeFile};
 use sftp_wire::Side;
 use std::alloc::{AllocError, Global};
 use std::fs::Files;
@@ -32,7 +32,7 @@ const RECORD_FRONT: usize = 5;
 
 /// Shows every field of a file, and as many bytes of each text as the options say. The first bytes say which kind of
 /// file it is. Where a file is malformed, what precedes the fault is shown.
-pub(crate) fn show_full<'a, R: Files + AllocGlobal, O: Write>(
+pub(crate) fn show_full<'a, R: System, O: Write>(
     rt: &R,
     options: &ShowOptions<'a>,
     output: &mut O,
@@ -55,63 +55,45 @@ pub(crate) fn show_full<'a, R: Files + AllocGlobal, O: Write>(
     outcome(shown, printed)
 }
 
-/// Shows the file `name`. One that cannot be read twice, such as a pipe, is held as a whole, since what its fault is,
-/// is found by reading it again.
-fn show_named<'a, R: Files + AllocGlobal, O: Write>(
+/// Shows the file `name`, which is read again where it has a fault: so it is found which one it is.
+fn show_named<'a, R: System, O: Write>(
     rt: &R,
     name: &'a str,
     most: Option<u64>,
     lines: &mut Lines<'_, O>,
 ) -> Result<(), Failure<'a>> {
-    if is_read_again(rt, name) {
-        show_file(rt, name, most, lines)
-    } else {
-        let bytes = read_at_most(rt, name, most)?;
-        let shown = show_bytes(rt.alloc(), name, bytes.as_slice(), lines);
-        drop(bytes);
-        shown
-    }
+    let file = Repeatable::of(rt, name, most)?;
+    let shown = show_file(rt, name, file.path(), most, lines);
+    drop(file);
+    shown
 }
 
-/// Shows a file that can be read again.
+/// Shows the file `name`, which is read at this path.
 fn show_file<'a, R: Files + AllocGlobal, O: Write>(
     rt: &R,
     name: &'a str,
+    path: &str,
     most: Option<u64>,
     lines: &mut Lines<'_, O>,
 ) -> Result<(), Failure<'a>> {
-    match open(rt, name) {
+    match open_at(rt, path, name) {
         Ok(file) => match show_stream(rt.alloc(), name, file, most, lines) {
             Ok(()) => Ok(()),
             Err(Stop::Failed(failure)) => Err(failure),
-            Err(Stop::Unfit) => Err(fault_in(rt, name)),
+            Err(Stop::Unfit) => Err(fault_in(rt, name, path)),
         },
         Err(failure) => Err(failure),
     }
 }
 
 /// Why a file is no tree file, as another look at it shows.
-fn fault_in<'a, R: Files + AllocGlobal>(rt: &R, name: &'a str) -> Failure<'a> {
-    match open(rt, name) {
+fn fault_in<'a, R: Files + AllocGlobal>(rt: &R, name: &'a str, path: &str) -> Failure<'a> {
+    match open_at(rt, path, name) {
         Ok(file) => match rows_of(rt.alloc(), name, u64::MAX, file) {
             Ok(read) => fault_of(read),
             Err(failure) => failure,
         },
         Err(failure) => failure,
-    }
-}
-
-/// Shows the bytes of a file.
-fn show_bytes<'a, O: Write>(
-    alloc: Global,
-    name: &'a str,
-    bytes: &[u8],
-    lines: &mut Lines<'_, O>,
-) -> Result<(), Failure<'a>> {
-    match show_stream(alloc, name, bytes, None, lines) {
-        Ok(()) => Ok(()),
-        Err(Stop::Failed(failure)) => Err(failure),
-        Err(Stop::Unfit) => Err(fault_of(read_rows(alloc, bytes))),
     }
 }
 

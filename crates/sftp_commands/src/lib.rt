@@ -30,17 +30,16 @@ pub use faulty::{Faulty, ReadFiles};
 pub use leaving_out::{Asked, LeftOut, Replied, find_reply, is_request, last_asked};
 pub use objects::{ended, is_of_output, print_failed, record_of_fault};
 pub use raising::raise;
-use sftp_files::{Ending, Failure, ShowOptions};
+use sftp_files::{Ending, Failure, ShowOptions, System};
 pub use spotting::spot_of;
-pub use starts::{Kept, read_tree, read_tree_in_view, read_tree_looking};
-use std::fs::Files;
+pub use starts::{read_tree, read_tree_again, read_tree_in_view, read_tree_looking};
 use std::io::Write;
 pub use texts::make;
-pub use trees::{is_read_again, write_timed_tree, write_tree};
+pub use trees::{write_timed_tree, write_tree};
 pub use twice::is_lost;
 
 /// Shows every field of a file, a line for each record or entry that sums it up, or what was selected.
-pub fn show<'a, R: Files + AllocGlobal, O: Write>(
+pub fn show<'a, R: System, O: Write>(
     rt: &R,
     options: &ShowOptions<'a>,
     output: &mut O,

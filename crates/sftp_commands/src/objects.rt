@@ -73,7 +73,8 @@ fn kind_of(failure: &Failure<'_>) -> &'static str {
         Failure::Text(_) => "text",
         Failure::UnknownFile => "unknown",
         Failure::CannotRead(..) => "read",
-        Failure::CannotWrite(..) | Failure::CannotReplace(..) | Failure::Unfit(..) => "write",
+        Failure::CannotWrite(..) | Failure::CannotReplace(..) => "write",
+        Failure::CannotCopy(..) | Failure::Unfit(..) => "write",
         Failure::OverLimit(_) | Failure::OutOfMemory => "memory",
     }
 }
@@ -111,6 +112,7 @@ fn name_of<'a>(failure: &Failure<'a>, file: Option<Faulty<'a>>) -> Option<&'a st
         Failure::CannotRead(name, _) => Some(*name),
         Failure::CannotWrite(name, _) => Some(*name),
         Failure::CannotReplace(name, _) => Some(*name),
+        Failure::CannotCopy(name, _) => Some(*name),
         Failure::Unfit(name, _) => Some(*name),
         Failure::OverLimit(name) => Some(*name),
         _ => match file {
@@ -184,6 +186,7 @@ fn code_of(failure: &Failure<'_>) -> Option<i32> {
         Failure::CannotRead(_, code) => *code,
         Failure::CannotWrite(_, code) => *code,
         Failure::CannotReplace(_, code) => *code,
+        Failure::CannotCopy(_, code) => *code,
         _ => None,
     }
 }

@@ -10,7 +10,6 @@ use sftp_transcript::{OPENING, Reader, Tally};
 use sftp_treefile::{TreeError, TreeFile};
 use std::alloc::Global;
 use std::fs::Files;
-use std::io;
 use std::io::{Read, Write};
 
 /// Shows a file. Its first bytes say which kind it is, and then it is read as a stream.

@@ -3,7 +3,7 @@ ghost use Rattle.std.specs.Prelude.{◌<◌, IfSome, IsSome, MatchResult};
 ghost use Rattle.sftp_transcript.specs.Recorded.{size_of};
 
 use sftp_faults::{Spot, spot_in_record, spot_in_tree};
-use sftp_files::Failure;
+use sftp_files::{Failure, is_read_again};
 use sftp_transcript::{OPENING, Reader, Source, Tally, TranscriptError};
 use sftp_treefile::TreeError;
 use sftp_wire::{PACKET_LIMIT, Packet, Side};
@@ -11,7 +11,7 @@ use std::fs;
 use std::fs::Files;
 use std::io::{Read, Seek, SeekFrom};
 
-/// Where the fault is that made a run fail, if one of these files has it and it can be found.
+/// Where the fault is that made a run fail, if one of these files has it and it can be found. A pipe is not read again.
 pub fn spot_of<R: Files + AllocGlobal>(
     rt: &R,
     tree: &str,
@@ -19,8 +19,10 @@ pub fn spot_of<R: Files + AllocGlobal>(
     failure: &Failure<'_>,
 ) -> Option<Spot> {
     match failure {
-        Failure::Tree(error) => tree_spot(rt, tree, *error),
-        Failure::Transcript(error) => transcript_spot(rt, transcript, *error),
+        Failure::Tree(error) if is_read_again(rt, tree) => tree_spot(rt, tree, *error),
+        Failure::Transcript(error) if is_read_again(rt, transcript) => {
+            transcript_spot(rt, transcript, *error)
+        }
         _ => None,
     }
 }

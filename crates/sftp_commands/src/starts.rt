@@ -2,7 +2,7 @@
 ghost use Rattle.std.specs.Prelude.{◌≡◌, IfErr};
 ghost use Rattle.sftp_files.specs.Failures.{failure_status};
 
-use sftp_files::{Failure, Flow, System, Watched, open};
+use sftp_files::{Failure, Flow, System, Watched, open, open_at};
 use sftp_progress::{Progress, Task, Tracked};
 use sftp_transcript::Tally;
 use sftp_tree::{Looks, Tree};
@@ -12,29 +12,15 @@ use std::fs::Files;
 use std::io::{IsTerminal, Read, Write};
 use std::time::Clock;
 
-/// From where the tree of a session's start can be read once more.
-#[derive(Clone, Copy)]
-pub enum Kept<'s> {
-    /// From the regular file of this name.
-    File(&'s str),
-    /// From the bytes of a file that cannot be read twice, such as a pipe.
-    Bytes(&'s [u8]),
-}
-
-impl Kept<'_> {
-    /// The tree, read once more.
-    ///
-    /// # Errors
-    ///
-    /// The first fault of the file; `Io` at no entry if it cannot be opened.
-    pub fn read<R: Files + AllocGlobal>(self, rt: &R) -> Result<Tree, TreeError> {
-        match self {
-            Kept::File(name) => match open(rt, name) {
-                Ok(file) => Tree::read_from(rt.alloc(), Tally::new(file)),
-                Err(_) => Err(TreeError::Io { entry: 0 }),
-            },
-            Kept::Bytes(bytes) => Tree::read(rt.alloc(), bytes),
-        }
+/// The tree of the file at this path, read once more.
+///
+/// # Errors
+///
+/// The first fault of the file; `Io` at no entry if it cannot be opened.
+pub fn read_tree_again<R: Files + AllocGlobal>(rt: &R, path: &str) -> Result<Tree, TreeError> {
+    match open(rt, path) {
+        Ok(file) => Tree::read_from(rt.alloc(), Tally::new(file)),
+        Err(_) => Err(TreeError::Io { entry: 0 }),
     }
 }
 
@@ -76,7 +62,8 @@ pub fn read_tree_looking<'a, R: System, K: Looks>(
     judged(name, most, flow, tree)
 }
 
-/// The same, while standard error says how much of the file is read; where it is no terminal, if that is asked for.
+/// The same of a file that is read at this path, while standard error says how much of it is read; where it is no
+/// terminal, if that is asked for.
 ///
 /// # Errors
 ///
@@ -84,14 +71,15 @@ pub fn read_tree_looking<'a, R: System, K: Looks>(
 pub fn read_tree_in_view<'a, R: System + Clock, E: Write + IsTerminal>(
     rt: &R,
     name: &'a str,
+    path: &str,
     limit: Option<u64>,
     is_asked: bool,
     errors: &mut E,
 ) -> Result<Result<Tree, TreeError>, Failure<'a>>
     ensures { IfErr result (λ failure. failure_status failure ≡ 3) }
 {
-    let file = open(rt, name)?;
-    let mut progress = Progress::new(rt, errors, is_asked, Task::ReadTree, Some(name));
+    let file = open_at(rt, path, name)?;
+    let mut progress = Progress::new(rt, errors, is_asked, Task::ReadTree, Some(path));
     let tracked = Tracked::new(file, &mut progress);
     let tree = tree_of(rt.alloc(), name, limit, tracked);
     progress.end();

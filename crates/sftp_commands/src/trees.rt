@@ -11,15 +11,10 @@ use sftp_streams::Tally;
 use sftp_tree::{HasTimes, Tree};
 use sftp_treefile::{TreeError, TreeFile, read_rows_from};
 use std::alloc::Global;
-use std::fs::{File, Files};
+use std::fs::File;
+use std::io;
 use std::io::{IsTerminal, Read, Write};
 use std::time::Clock;
-use std::{fs, io};
-
-/// Whether the file `name` can be read more than once. A pipe cannot.
-pub fn is_read_again<R: Files>(rt: &R, name: &str) -> bool {
-    fs::metadata(rt, name).is_ok_and(|found| found.is_file())
-}
 
 /// What the tree file `name`, which may have so many bytes, says, or its fault. No more of it is held than that and a
 /// buffer. Standard error says how much of it is read.

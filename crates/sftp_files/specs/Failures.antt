@@ -30,6 +30,11 @@ abbrev pub IsUnreplacedFile : List ℕ → Failure → Type 0
 IsUnreplacedFile name (failures.CannotReplace file _) = file.now ≡ name
 IsUnreplacedFile name _ = ⊥
 
+-- the file of this name cannot be read twice, and no copy of it can be kept
+abbrev pub IsUncopiedFile : List ℕ → Failure → Type 0
+IsUncopiedFile name (failures.CannotCopy file _) = file.now ≡ name
+IsUncopiedFile name _ = ⊥
+
 -- usage is bad, or memory ran out
 abbrev pub IsUsage : Failure → Type 0
 IsUsage (failures.Usage _) = Unit {0}
@@ -95,6 +100,7 @@ failure_status failures.UnknownFile = 2
 failure_status (failures.CannotRead _ _) = 3
 failure_status (failures.CannotWrite _ _) = 3
 failure_status (failures.CannotReplace _ _) = 3
+failure_status (failures.CannotCopy _ _) = 3
 failure_status (failures.Unfit _ _) = 3
 failure_status (failures.OverLimit _) = 3
 failure_status failures.OutOfMemory = 3

@@ -3,6 +3,7 @@
 #![tactic(auto)]
 
 mod contents;
+mod copies;
 mod growth;
 mod links;
 mod memory;
@@ -15,20 +16,22 @@ mod saving;
 mod watching;
 
 pub use contents::{Content, FileSink};
+pub use copies::Repeatable;
 pub use memory::{Bounded, BoundedRecords, Meter};
 pub use messages::{
     Ending, Failure, MORE, STANDARD_INPUT, STANDARD_OUTPUT, print, report, write_flushed,
 };
 pub use names::Named;
 pub use options::{DiffForm, ImportOptions, RaiseTo, ServeOptions, ShowOptions};
-pub use reading::{open, read, read_at_most};
+pub use reading::{is_read_again, open, open_at, read, read_at_most};
 pub use recording::{Record, Recording};
 pub use saving::{Keeping, PRIVATE, require_fit, write, write_content, write_last};
+use std::env::Env;
 use std::fs::{File, Files};
 use std::random::RandomSource;
 pub use watching::{Announcing, Flow, Watched};
 
-/// Files that are open by descriptors, memory, and random bytes.
-pub trait System: Files<File = File> + AllocGlobal + RandomSource {}
+/// Files that are open by descriptors, memory, random bytes, and the environment.
+pub trait System: Files<File = File> + AllocGlobal + RandomSource + Env {}
 
-impl<R: Files<File = File> + AllocGlobal + RandomSource> System for R {}
+impl<R: Files<File = File> + AllocGlobal + RandomSource + Env> System for R {}

@@ -4,7 +4,7 @@ ghost use Rattle.std.specs.IoError.{error_kind};
 ghost use Rattle.std.specs.declared.io.ErrorKind.TheVariants as kinds;
 ghost use Rattle.sftp_files.specs.declared.messages.Failure.TheVariants as failures;
 ghost use Rattle.sftp_files.specs.Failures.{tree_failure, IsTranscriptFailure, IsUsage};
-ghost use Rattle.sftp_files.specs.Failures.{IsUnreadFile, IsUnwritten, IsUnwrittenFile, IsUnreplacedFile};
+ghost use Rattle.sftp_files.specs.Failures.{IsUnreadFile, IsUnwritten, IsUnwrittenFile, IsUnreplacedFile, IsUncopiedFile};
 
 use crate::names::Named;
 use sftp_path::NoMemory;
@@ -61,6 +61,9 @@ pub enum Failure<'a> {
     /// The file with this name cannot be replaced, and is unchanged. The number is the system's for the error, if it
     /// gave one.
     CannotReplace(&'a str, Option<i32>),
+    /// The file with this name cannot be read twice, and no copy of it can be kept. The number is the system's for the
+    /// error, if it gave one.
+    CannotCopy(&'a str, Option<i32>),
     /// The file with this name is not written to, for this reason.
     Unfit(&'a str, &'a str),
     /// The file or stream with this name needs more memory than the run may have.
@@ -82,6 +85,7 @@ impl Failure<'_> {
             Failure::CannotRead(name, _) => ("sftpv3: cannot read ", name),
             Failure::CannotWrite(name, _) => ("sftpv3: cannot write ", name),
             Failure::CannotReplace(name, _) => ("sftpv3: cannot write ", name),
+            Failure::CannotCopy(name, _) => ("sftpv3: cannot keep a copy of ", name),
             Failure::Unfit(name, _) => ("sftpv3: cannot write ", name),
             Failure::OverLimit(name) => ("sftpv3: out of memory: ", name),
             Failure::OutOfMemory => ("sftpv3: out of memory", ""),
@@ -95,6 +99,7 @@ impl Failure<'_> {
             Failure::TreeOf(_, fault) => write!(f, ": {fault}"),
             Failure::Transcript(fault) => write!(f, "{fault}"),
             Failure::Text(text) => f.write_str(text.as_str()),
+            Failure::CannotCopy(..) => f.write_str(", which cannot be read twice"),
             Failure::Unfit(_, reason) => write!(f, ": {reason}"),
             Failure::OverLimit(_) => f.write_str(" needs more than '--memory' allows"),
             _ => Ok(()),
@@ -146,7 +151,7 @@ impl Failure<'_> {
             | Failure::Text(_)
             | Failure::UnknownFile => 2,
             Failure::CannotRead(..) | Failure::CannotWrite(..) => 3,
-            Failure::CannotReplace(..) | Failure::Unfit(..) => 3,
+            Failure::CannotReplace(..) | Failure::CannotCopy(..) | Failure::Unfit(..) => 3,
             Failure::OverLimit(_) | Failure::OutOfMemory => 3,
         }
     }
@@ -183,6 +188,17 @@ impl<'a> Failure<'a> {
         match error.kind() {
             io::ErrorKind::OutOfMemory => Failure::OutOfMemory,
             _ => Failure::CannotReplace(name, error.raw_os_error()),
+        }
+    }
+
+    /// Why no copy of the file `name` can be kept. When memory runs out, the file is not to blame.
+    pub fn copying(name: &'a str, error: &io::Error) -> Failure<'a>
+        ensures memory { error_kind error.now ≡ kinds.OutOfMemory → result ≡ failures.OutOfMemory }
+        ensures file { error_kind error.now ≢ kinds.OutOfMemory → IsUncopiedFile name.now result }
+    {
+        match error.kind() {
+            io::ErrorKind::OutOfMemory => Failure::OutOfMemory,
+            _ => Failure::CannotCopy(name, error.raw_os_error()),
         }
     }
 }
@@ -270,6 +286,7 @@ fn report_details<E: Write>(errors: &mut E, failure: &Failure<'_>) -> io::Result
     match failure {
         Failure::CannotRead(_, Some(code)) => put_reason(errors, *code, ""),
         Failure::CannotWrite(_, Some(code)) => put_reason(errors, *code, ""),
+        Failure::CannotCopy(_, Some(code)) => put_reason(errors, *code, ""),
         Failure::CannotReplace(_, Some(code)) => {
             put_reason(errors, *code, "; the file is unchanged")
         }

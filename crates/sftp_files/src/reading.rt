@@ -8,11 +8,23 @@ use std::fs;
 use std::fs::Files;
 use std::io::Read;
 
+/// Whether the file `name` can be read more than once. A pipe cannot.
+pub fn is_read_again<R: Files>(rt: &R, name: &str) -> bool {
+    fs::metadata(rt, name).is_ok_and(|found| found.is_file())
+}
+
 /// Opens the file `name` to read it.
 pub fn open<'a, R: Files>(rt: &R, name: &'a str) -> Result<R::File, Failure<'a>>
     ensures { IfErr result IsUnread }
 {
-    match fs::open(rt, name) {
+    open_at(rt, name, name)
+}
+
+/// Opens the file `name`, which is read at this path, to read it.
+pub fn open_at<'a, R: Files>(rt: &R, path: &str, name: &'a str) -> Result<R::File, Failure<'a>>
+    ensures { IfErr result IsUnread }
+{
+    match fs::open(rt, path) {
         Ok(file) => Ok(file),
         Err(error) => Err(Failure::reading(name, &error)),
     }

@@ -245,7 +245,7 @@ fn replace<R: System, C: Content>(
 }
 
 /// The path of a new file beside the one at this path, which nobody can foresee.
-fn fresh_path<R: System>(rt: &R, path: &str) -> io::Result<String> {
+pub(crate) fn fresh_path<R: System>(rt: &R, path: &str) -> io::Result<String> {
     let mut bytes = [0; 8];
     rt.fill_bytes(&mut bytes)?;
     let number = u64::from_le_bytes(bytes);

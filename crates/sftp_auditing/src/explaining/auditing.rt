@@ -4,6 +4,7 @@ use crate::explaining::sought::Sought;
 use crate::explaining::unexplained::Unexplained;
 use crate::going_on::feed_rest;
 use sftp_audit::{AuditError, Auditor, Refusal};
+use sftp_commands::read_tree_again;
 use sftp_profile::{Judge, Profile};
 use sftp_transcript::TranscriptError;
 use sftp_verdicts::{numbered, record_of};
@@ -13,7 +14,7 @@ use std::io::Write;
 impl<R: Files + AllocGlobal, E: Write> Explanation<'_, '_, '_, R, E> {
     /// An auditor, by this profile, that has seen nothing of the session.
     pub(super) fn new_auditor(&self, profile: Profile) -> Result<Auditor<Judge>, Unexplained> {
-        let tree = self.refused.tree.read(self.refused.rt)?;
+        let tree = read_tree_again(self.refused.rt, self.refused.tree)?;
         match Auditor::<Judge>::by(profile, tree) {
             Ok(auditor) => Ok(auditor),
             Err(_) => Err(Unexplained::OutOfMemory),
