@@ -96,12 +96,18 @@ pub(crate) fn put_way<E: Write>(refusal: Refusal, errors: &mut E) {
     }
 }
 
-/// Says why the tree of what a session tells would be larger than it may.
-pub(crate) fn put_excess<E: Write>(excess: Excess, errors: &mut E) {
+/// Says why the tree of what a session tells would be larger than it may, with an option `--memory` or without one.
+pub(crate) fn put_excess<E: Write>(excess: Excess, has_memory: bool, errors: &mut E) {
     let _ = match excess {
-        Excess::Files(bytes) => write_flushed(
+        Excess::Files(bytes) if has_memory => write_flushed(
             errors,
             format_args!("no tree: the files of the session have {bytes} bytes in all\n"),
+        ),
+        Excess::Files(bytes) => write_flushed(
+            errors,
+            format_args!(
+                "no tree: the files of the session have {bytes} bytes in all; more than 1 GiB needs '--memory'\n"
+            ),
         ),
         Excess::File(bytes) => write_flushed(
             errors,

@@ -214,12 +214,14 @@ fn exceed<'a, O: Write, E: Write>(
 ) -> Result<Ending, Failure<'a>>
     ensures { IsAuditStatus result }
 {
-    put_excess(excess, errors);
+    let has_memory = options.memory.is_some();
+    put_excess(excess, has_memory, errors);
     match excess {
         Excess::File(_) => print_none(options.is_json, 0, 0, output),
         Excess::Entries => print_none(options.is_json, 0, 0, output),
-        Excess::Files(_) => Err(Failure::OverLimit(options.transcript)),
-        Excess::Paths(_) => Err(Failure::OverLimit(options.transcript)),
+        Excess::Files(_) if has_memory => Err(Failure::OverLimit(options.transcript)),
+        Excess::Files(_) => Err(Failure::OutOfMemory),
+        Excess::Paths(_) => Err(Failure::OutOfMemory),
     }
 }
 
