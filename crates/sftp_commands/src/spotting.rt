@@ -2,6 +2,7 @@
 ghost use Rattle.std.specs.Prelude.{◌<◌, IfSome, IsSome, MatchResult};
 ghost use Rattle.sftp_transcript.specs.Recorded.{size_of};
 
+use crate::trees::is_read_again;
 use sftp_faults::{Spot, spot_in_record, spot_in_tree};
 use sftp_files::Failure;
 use sftp_transcript::{OPENING, Reader, Source, Tally, TranscriptError};
@@ -11,7 +12,7 @@ use std::fs;
 use std::fs::Files;
 use std::io::{Read, Seek, SeekFrom};
 
-/// Where the fault is that made a run fail, if one of these files has it and it can be found.
+/// Where the fault is that made a run fail, if one of these files has it, can be read again, and it can be found.
 pub fn spot_of<R: Files + AllocGlobal>(
     rt: &R,
     tree: &str,
@@ -19,13 +20,15 @@ pub fn spot_of<R: Files + AllocGlobal>(
     failure: &Failure<'_>,
 ) -> Option<Spot> {
     match failure {
-        Failure::Tree(error) => tree_spot(rt, tree, *error),
-        Failure::Transcript(error) => transcript_spot(rt, transcript, *error),
+        Failure::Tree(error) if is_read_again(rt, tree) => tree_spot(rt, tree, *error),
+        Failure::Transcript(error) if is_read_again(rt, transcript) => {
+            transcript_spot(rt, transcript, *error)
+        }
         _ => None,
     }
 }
 
-/// Where the fault of a tree file is, if it can be read again.
+/// Where the fault of a tree file is, if it can be found.
 fn tree_spot<R: Files + AllocGlobal>(rt: &R, name: &str, error: TreeError) -> Option<Spot> {
     let bytes = fs::read(rt, name).ok()?;
     let spot = spot_in_tree(rt.alloc(), bytes.as_slice(), error);
@@ -33,7 +36,7 @@ fn tree_spot<R: Files + AllocGlobal>(rt: &R, name: &str, error: TreeError) -> Op
     spot
 }
 
-/// Where the fault of a transcript is, if it can be read again from its start.
+/// Where the fault of a transcript is, if it can be found.
 fn transcript_spot<R: Files + AllocGlobal>(
     rt: &R,
     name: &str,
