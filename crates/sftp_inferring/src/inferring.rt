@@ -264,7 +264,8 @@ fn accept<'a, R: System, O: Write, E: Write>(
     )
 }
 
-/// Writes the tree file of the start and that of the end, if files are named for them.
+/// Writes the tree file of the start and that of the end, if files are named for them. Two names of one file that was
+/// not there are known for that only once the first tree is written.
 fn write_files<'a, R: System>(
     rt: &R,
     options: &InferOptions<'a>,
@@ -276,6 +277,7 @@ fn write_files<'a, R: System>(
         write_text(rt, name, options.keeping, &inferred.candidate.tree)?;
     }
     match (options.out, &inferred.ended.tree) {
+        (Some(name), Some(_)) if loses_start(rt, options) => Err(Failure::Unfit(name, START_LOST)),
         (Some(name), Some(tree)) => write(rt, name, options.keeping, tree.as_slice()),
         _ => Ok(()),
     }
