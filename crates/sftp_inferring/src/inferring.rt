@@ -14,7 +14,9 @@ use sftp_files::{Ending, Failure, Keeping, System, print, read_at_most, write};
 use sftp_infer::{Excess, Search, Settings, TreeText};
 use sftp_path::{DEPTH_LIMIT, NoMemory, place_of_text};
 use sftp_profile::Profile;
-use sftp_verdicts::{InferOptions, TRANSCRIPT_LOST, record_of, umask_of, with_umask};
+use sftp_verdicts::{
+    InferOptions, TRANSCRIPT_LOST, parts_of_line, record_of, umask_of, with_umask,
+};
 use std::alloc::Global;
 use std::io::Write;
 
@@ -196,13 +198,28 @@ fn report_unpaired<'a, O: Write, E: Write>(
 {
     let record = record_of(refusal);
     if options.is_json {
-        return print_untold(record, 0, output);
+        return print_unpaired(alloc, refusal, output);
     }
     put_refusal(refusal, output)?;
-    if !options.explains || put_exchange(alloc, session, "found", record, errors) {
+    if !options.explains || put_exchange(alloc, session, "found", record, errors).is_some() {
         put_way(refusal, errors);
     }
     Ok(Ending::Refused)
+}
+
+/// Prints the object of a session whose records do not pair off. Its kind is what the line of the refusal ends in.
+fn print_unpaired<'a, O: Write>(
+    alloc: Global,
+    refusal: Refusal,
+    output: &mut O,
+) -> Result<Ending, Failure<'a>>
+    ensures { IsAuditStatus result }
+{
+    let line = format!(in alloc; "{refusal}")?;
+    let (_, kind) = parts_of_line(line.as_str());
+    let printed = print_untold(kind, record_of(refusal), 0, output);
+    drop(line);
+    printed
 }
 
 /// Says that the tree of what a session tells would be larger than it may be, or than any tree is.
@@ -235,7 +252,7 @@ fn print_none<'a, O: Write>(
     ensures { IsAuditStatus result }
 {
     if is_json {
-        return print_untold(found, told, output);
+        return print_untold(kind_of(told, found), found, told, output);
     }
     print_contradiction(told, found, output)
 }
@@ -359,6 +376,15 @@ fn write_best<'a, R: System>(
     match (options.best, search.best()) {
         (Some(name), Some(tree)) => write_text(rt, name, options.keeping, tree),
         _ => Ok(()),
+    }
+}
+
+/// Why there is no tree, as a word: by the records that contradict each other; 0 stands for none.
+fn kind_of(told: u64, found: u64) -> &'static str {
+    match (told, found) {
+        (0, 0) => "NotFound",
+        (0, _) => "Unexplained",
+        _ => "Contradiction",
     }
 }
 
