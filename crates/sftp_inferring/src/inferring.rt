@@ -33,6 +33,11 @@ const PASSES: u32 = 300;
 const FILES: u64 = 1 << 30;
 
 /// Infers a tree from a session, and audits the session with it.
+///
+/// # Errors
+///
+/// `Usage` if the options cannot be meant so, such as a tree in the file of the transcript; a malformed transcript; a
+/// file or a stream that cannot be read or written; and memory that ran out, or a session whose tree would need more.
 pub fn infer<'a, R: System, O: Write, E: Write>(
     rt: &R,
     options: &InferOptions<'a>,
