@@ -22,9 +22,11 @@ BASE, SECONDS, BYTES_A_SECOND = 16 << 20, 10, 100_000
 # The status of the program where a tree explains the session, where none is found, and where it would be too large.
 FOUND, NOT_FOUND, TOO_LARGE = 0, 1, 3
 
-# How it says the last.
-EXCESS = re.compile(r"no tree: the (files of the session|paths that replies tell of) have \d+ bytes in all\n"
-                    r"sftpv3: out of memory: .* needs more than '--memory' allows\n")
+# How it says the last, with --memory and without it.
+LIMITED = re.compile(r"no tree: the files of the session have \d+ bytes in all\n"
+                     r"sftpv3: out of memory: .* needs more than '--memory' allows\n")
+EXCESS = re.compile(r"no tree: the (files of the session have \d+ bytes in all; more than 1 GiB needs "
+                    r"'--memory'|paths that replies tell of have \d+ bytes in all)\nsftpv3: out of memory\n")
 
 OWNER = (7, 8)
 DIRECTORY, FILE, LINK = ({"size": size, "owner": OWNER, "permissions": kind} for size, kind in
@@ -210,7 +212,8 @@ def attempt(folder, program, name):
     words = [program, "infer", "--no-sync", *session.words, "--transcript", transcript, transcript + ".tree"]
     status, seconds, memory, said, why = measured(words)
     wrong = []
-    if status not in session.statuses or (status == TOO_LARGE) != (EXCESS.fullmatch(why) is not None):
+    excess = LIMITED if "--memory" in session.words else EXCESS
+    if status not in session.statuses or (status == TOO_LARGE) != (excess.fullmatch(why) is not None):
         wrong.append(f"status {status}, {said.strip()} {why.strip()}")
     if seconds > SECONDS + size / BYTES_A_SECOND:
         wrong.append(f"{seconds:.1f} seconds for {size:,} bytes")

@@ -16,7 +16,7 @@ use crate::explaining::explain;
 use crate::going_on::report_findings;
 use crate::verdict_objects::print_refused;
 use sftp_audit::{AuditError, Ended, Refusal, audit_tree_by};
-use sftp_commands::{LeftOut, read_tree_in_view, write_tree};
+use sftp_commands::{LeftOut, is_lost, read_tree_in_view, write_tree};
 use sftp_files::{BoundedRecords, Ending, Failure, Meter, Repeatable, System, open, print};
 use sftp_handles::{GivenTable, Session};
 use sftp_judges::Judges;
@@ -25,7 +25,7 @@ use sftp_progress::{Progress, Task, Tracked};
 use sftp_transcript::{Reader, Tally};
 use sftp_tree::Tree;
 use sftp_treefile::TreeError;
-use sftp_verdicts::{AuditOptions, umask_of, with_umask};
+use sftp_verdicts::{AuditOptions, TRANSCRIPT_LOST, umask_of, with_umask};
 use std::alloc::Global;
 use std::fs::Files;
 use std::io::{IsTerminal, Read, Write};
@@ -37,6 +37,11 @@ const LACKS_KEEP_GOING: &str =
 
 /// Audits a session. The tree file is read and the transcript is opened before either is judged. The transcript is read
 /// as a stream.
+///
+/// # Errors
+///
+/// `Usage` if the options cannot be meant so, such as a final tree in the file of the transcript; a malformed file; and
+/// a file or a stream that cannot be read or written, or memory that ran out.
 pub fn audit<'a, R: System + Clock, O: Write, E: Write + IsTerminal>(
     rt: &R,
     files: &AuditOptions<'a>,
@@ -45,6 +50,9 @@ pub fn audit<'a, R: System + Clock, O: Write, E: Write + IsTerminal>(
 ) -> Result<Ending, Failure<'a>>
     ensures { IsAuditStatus result }
 {
+    if is_lost(rt, files.out, Some(files.transcript)) {
+        return Err(Failure::of_misuse(rt.alloc(), TRANSCRIPT_LOST));
+    }
     if files.most.is_some() && !files.keeps_going {
         return Err(Failure::of_misuse(rt.alloc(), LACKS_KEEP_GOING));
     }

@@ -27,7 +27,7 @@ pub fn spot_of<R: Files + AllocGlobal>(
     }
 }
 
-/// Where the fault of a tree file is, if it can be read again.
+/// Where the fault of a tree file is, if it can be found.
 fn tree_spot<R: Files + AllocGlobal>(rt: &R, name: &str, error: TreeError) -> Option<Spot> {
     let bytes = fs::read(rt, name).ok()?;
     let spot = spot_in_tree(rt.alloc(), bytes.as_slice(), error);
@@ -35,7 +35,7 @@ fn tree_spot<R: Files + AllocGlobal>(rt: &R, name: &str, error: TreeError) -> Op
     spot
 }
 
-/// Where the fault of a transcript is, if it can be read again from its start.
+/// Where the fault of a transcript is, if it can be found.
 fn transcript_spot<R: Files + AllocGlobal>(
     rt: &R,
     name: &str,

@@ -78,14 +78,14 @@ impl Choices {
     }
 
     /// Notes that a choice waits no more.
-    pub(crate) fn take(&mut self, index: usize) {
+    pub(crate) fn stop_waiting(&mut self, index: usize) {
         if let Some(choice) = self.each.get_mut(index) {
             choice.is_waiting = false;
         }
     }
 
     /// Adds the first choice, which has no facts.
-    pub(crate) fn begin_none(&mut self) -> Result<(), NoMemory> {
+    pub(crate) fn add_first(&mut self) -> Result<(), NoMemory> {
         self.add(Choice {
             parent: None,
             facts: Vec::new(self.alloc),

@@ -110,9 +110,9 @@ impl World {
 
     /// Takes the end of a listing: no name is left that it did not give.
     pub(crate) fn list_end(&mut self, listing: Opened) -> Result<(), Stop> {
-        if let Some((slot, name)) = self.left_out(listing)? {
+        if let Some((told, name)) = self.left_out(listing)? {
             let spot = self.spot(listing.entry, name.as_slice());
-            let missing = self.clash_name(spot, slot.told, What::Unlisted);
+            let missing = self.clash_name(spot, told, What::Unlisted);
             drop(name);
             return Err(missing);
         }
@@ -120,14 +120,18 @@ impl World {
         Ok(())
     }
 
-    /// The first name that was in the directory all the time, and that a listing left out.
-    fn left_out(&mut self, listing: Opened) -> Result<Option<(Slot, Vec<u8>)>, Stop> {
+    /// The first name that was in the directory all the time, and that a listing left out; and the record that told it.
+    fn left_out(&mut self, listing: Opened) -> Result<Option<(u64, Vec<u8>)>, Stop> {
         let names = self.entry(listing.entry).names.each().len() as u64;
         self.work = self.work.saturating_add(names);
         match first_left_out(self.entry(listing.entry), listing) {
             Some(named) => {
+                let told = match named.slot.held() {
+                    Some((_, told)) => told,
+                    None => 0,
+                };
                 let name = Vec::from_slice(self.alloc, named.name.as_slice())?;
-                Ok(Some((named.slot, name)))
+                Ok(Some((told, name)))
             }
             None => Ok(None),
         }

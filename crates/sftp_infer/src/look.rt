@@ -360,12 +360,8 @@ impl World {
 
     /// What a name in a directory leads to now, and the record that told it, if that is known.
     pub(crate) fn held(&self, spot: Spot<'_>) -> Option<(Held, u64)> {
-        let slot = self.slot(spot);
-        if let Some(held) = slot.now {
-            return Some((held, slot.changed));
-        }
-        if let Some(held) = slot.start {
-            return Some((held, slot.told));
+        if let Some(held) = self.slot(spot).held() {
+            return Some(held);
         }
         match self.entry(spot.parent).complete {
             Some(told) => Some((Held::Nothing, told)),

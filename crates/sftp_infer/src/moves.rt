@@ -164,8 +164,8 @@ impl World {
     fn rmdir_at(&mut self, found: &Found<'_>) -> Result<(), Stop> {
         let at = self.entry_of(found, Sort::Directory)?;
         self.tell_sort(at, Sort::Directory, None)?;
-        if self.has_entries(at) == Some(true) {
-            return Err(self.clash_of(at, What::Entries));
+        if let Some(told) = self.entry_told(at) {
+            return Err(self.clash_at(at, told, What::Entries));
         }
         self.complete(at);
         self.change(found.spot(), Held::Nothing)

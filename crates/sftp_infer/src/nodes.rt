@@ -51,6 +51,15 @@ impl Slot {
             listed: 0,
         }
     }
+
+    /// What it leads to now, and the record that told it, if that is known.
+    pub(crate) fn held(&self) -> Option<(Held, u64)> {
+        match (self.now, self.start) {
+            (Some(held), _) => Some((held, self.changed)),
+            (None, Some(held)) => Some((held, self.told)),
+            (None, None) => None,
+        }
+    }
 }
 
 /// The owner and the permissions of an entry.

@@ -100,8 +100,8 @@ impl World {
     fn is_over(&self) -> bool {
         let places = (self.nodes.len() as u64).saturating_mul(PLACE_BYTES);
         let most = self
-            .length
-            .saturating_sub(self.length / 4)
+            .session_bytes
+            .saturating_sub(self.session_bytes / 4)
             .saturating_add(places);
         self.taken > most.saturating_add(FREE_BYTES)
     }

@@ -41,7 +41,7 @@ pub(crate) struct Shown<'s> {
 impl Shown<'_> {
     /// So many bytes of it, the first ones.
     pub(crate) fn first(&self, len: u64) -> &[u8] {
-        part(self.session, self.piece.from, len)
+        bytes_at(self.session, self.piece.from, len)
     }
 
     /// What is behind so many bytes of it.
@@ -90,10 +90,10 @@ fn without_zeros(bytes: &[u8]) -> u64 {
 }
 
 /// So many bytes from a place on.
-pub(crate) fn part(bytes: &[u8], from: usize, len: u64) -> &[u8] {
+pub(crate) fn bytes_at(bytes: &[u8], from: usize, len: u64) -> &[u8] {
     let end = from.saturating_add(len as usize);
     match bytes.get(from..end) {
-        Some(part) => part,
+        Some(some) => some,
         None => &[],
     }
 }
@@ -170,7 +170,7 @@ impl World {
         known: Piece,
         len: u64,
     ) -> Result<u64, Stop> {
-        let one = part(shown.session, known.from, len);
+        let one = bytes_at(shown.session, known.from, len);
         match first_difference(one, shown.first(len)) {
             None => Ok(len),
             Some((place, left, right)) => {

@@ -143,17 +143,17 @@ impl World {
         match ask {
             Ask::Rmdir { path } => Ok(self.end_of(path.as_slice())?.is_root()),
             Ask::Rename { oldpath, newpath } => {
-                self.is_of_two(oldpath.as_slice(), newpath.as_slice(), false)
+                self.is_bad_move(oldpath.as_slice(), newpath.as_slice(), false)
             }
             Ask::PosixRename { oldpath, newpath } => {
-                self.is_of_two(oldpath.as_slice(), newpath.as_slice(), true)
+                self.is_bad_move(oldpath.as_slice(), newpath.as_slice(), true)
             }
             _ => Ok(false),
         }
     }
 
-    /// The same of two paths, of which the second one may be replaced.
-    fn is_of_two(&self, old: &[u8], new: &[u8], replaces: bool) -> Result<bool, Stop> {
+    /// Whether the root would be moved, or replaced if something may be, or something moved into itself.
+    fn is_bad_move(&self, old: &[u8], new: &[u8], replaces: bool) -> Result<bool, Stop> {
         let old = self.end_of(old)?;
         let new = self.end_of(new)?;
         let is_root = old.is_root() || replaces && new.is_root();

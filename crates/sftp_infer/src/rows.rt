@@ -122,7 +122,7 @@ impl World {
         let free = (places as u64)
             .saturating_mul(PATH_BYTES)
             .saturating_add(FREE_BYTES);
-        free.saturating_add(self.length / 2)
+        free.saturating_add(self.session_bytes / 2)
     }
 
     /// How long the target of an entry is, if it has one that is known.

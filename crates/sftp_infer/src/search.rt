@@ -108,7 +108,7 @@ impl<'a> Search<'a> {
 
     /// Adds a choice with no facts, and looks at the session.
     fn prepare(&mut self) -> Result<(), NoMemory> {
-        self.choices.begin_none()?;
+        self.choices.add_first()?;
         self.look_first()
     }
 
@@ -167,7 +167,7 @@ impl<'a> Search<'a> {
 
     /// Goes through the session with a choice.
     fn try_choice(&mut self, choice: usize) -> Result<Step<'a>, NoMemory> {
-        self.choices.take(choice);
+        self.choices.stop_waiting(choice);
         let mut world = World::new(
             self.alloc,
             self.session.len() as u64,

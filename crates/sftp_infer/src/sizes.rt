@@ -6,7 +6,7 @@ use crate::facts::Says;
 use crate::files::File;
 use crate::nodes::{Held, Sort};
 use crate::pieces::{Known, Piece};
-use crate::reads::{Shown, part};
+use crate::reads::{Shown, bytes_at};
 use crate::world::World;
 
 impl World {
@@ -292,7 +292,7 @@ fn put_appended(file: &File, session: &[u8], bytes: &mut Vec<u8>) -> Result<(), 
         match file.written.known(offset) {
             Known::Bytes(piece) if bytes.len() < APPENDED => {
                 let len = piece.len.min(APPENDED as u64);
-                bytes.extend_from_slice(part(session, piece.from, len))?;
+                bytes.extend_from_slice(bytes_at(session, piece.from, len))?;
                 offset = offset.saturating_add(piece.len);
             }
             _ => return Ok(()),

@@ -212,17 +212,25 @@ impl World {
 
     /// Whether a directory has an entry now, and whether that is known: `None` if it is not.
     pub(crate) fn has_entries(&self, at: usize) -> Option<bool> {
-        let directory = self.entry(at);
-        for named in directory.names.each().iter().take(LOOKED_AT) {
-            if let Some(Held::Entry(_)) = named.slot.now.or(named.slot.start) {
-                return Some(true);
-            }
+        if self.entry_told(at).is_some() {
+            return Some(true);
         }
+        let directory = self.entry(at);
         if directory.complete.is_some() && directory.names.each().len() <= LOOKED_AT {
             Some(false)
         } else {
             None
         }
+    }
+
+    /// The record that told of an entry that a directory has now, if it is known to have one.
+    pub(crate) fn entry_told(&self, at: usize) -> Option<u64> {
+        for named in self.entry(at).names.each().iter().take(LOOKED_AT) {
+            if let Some((Held::Entry(_), told)) = named.slot.held() {
+                return Some(told);
+            }
+        }
+        None
     }
 }
 

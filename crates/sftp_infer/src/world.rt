@@ -22,7 +22,7 @@ const PIECE_BYTES: u64 = 40;
 pub(crate) struct World {
     pub(crate) alloc: Global,
     /// How many bytes the session has.
-    pub(crate) length: u64,
+    pub(crate) session_bytes: u64,
     pub(crate) settings: Settings,
     /// The entries; the first one is the root.
     pub(crate) nodes: Vec<Node>,
@@ -79,20 +79,19 @@ impl World {
     /// A tree of which nothing is known but its root.
     pub(crate) fn new(
         alloc: Global,
-        length: u64,
+        session_bytes: u64,
         settings: Settings,
         home: &[u8],
     ) -> Result<World, NoMemory> {
-        let mut nodes = Vec::new(alloc);
         let seat = Seat {
             parent: 0,
             place: 0,
         };
-        nodes.push(Node::old(alloc, Sort::Directory, 0, seat))?;
+        let nodes = vec![in alloc; Node::old(alloc, Sort::Directory, 0, seat)]?;
         let home = Vec::from_slice(alloc, home)?;
         Ok(World {
             alloc,
-            length,
+            session_bytes,
             settings,
             nodes,
             other: Node::old(alloc, Sort::Unknown, 0, seat),

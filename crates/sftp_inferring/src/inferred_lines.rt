@@ -96,12 +96,18 @@ pub(crate) fn put_way<E: Write>(refusal: Refusal, errors: &mut E) {
     }
 }
 
-/// Says why the tree of what a session tells would be larger than it may.
-pub(crate) fn put_excess<E: Write>(excess: Excess, errors: &mut E) {
+/// Says why the tree of what a session tells would be larger than it may, with an option `--memory` or without one.
+pub(crate) fn put_excess<E: Write>(excess: Excess, has_memory: bool, errors: &mut E) {
     let _ = match excess {
-        Excess::Files(bytes) => write_flushed(
+        Excess::Files(bytes) if has_memory => write_flushed(
             errors,
             format_args!("no tree: the files of the session have {bytes} bytes in all\n"),
+        ),
+        Excess::Files(bytes) => write_flushed(
+            errors,
+            format_args!(
+                "no tree: the files of the session have {bytes} bytes in all; more than 1 GiB needs '--memory'\n"
+            ),
         ),
         Excess::File(bytes) => write_flushed(
             errors,
@@ -240,95 +246,106 @@ pub(crate) fn put_clash<E: Write>(
     search: &Search<'_>,
     errors: &mut E,
 ) {
-    let put = match search.clash() {
+    match search.clash() {
         Some(clash) => {
-            put_told(alloc, session, clash, errors) && put_found(alloc, session, clash, errors)
+            if let Some(first) = put_both(alloc, session, clash, errors) {
+                put_end(search, errors);
+                put_hint(first, clash.told.max(clash.found), errors);
+            }
         }
-        None => true,
-    };
-    if put {
-        put_end(search, errors);
+        None => put_end(search, errors),
     }
 }
 
-/// Writes the earlier record of a contradiction, if there is one, and what it told. Returns whether memory sufficed.
-fn put_told<E: Write>(alloc: Global, session: &[u8], clash: &Clash, errors: &mut E) -> bool {
+/// Writes both records of a contradiction, and what they say. Returns the number of the first record that it wrote;
+/// `None` if memory ran out.
+fn put_both<E: Write>(
+    alloc: Global,
+    session: &[u8],
+    clash: &Clash,
+    errors: &mut E,
+) -> Option<u64> {
+    let told = put_told(alloc, session, clash, errors)?;
+    let found = put_found(alloc, session, clash, errors)?;
+    Some(told.min(found))
+}
+
+/// Writes the earlier record of a contradiction, if there is one, and what it told. Returns as `put_both` does.
+fn put_told<E: Write>(alloc: Global, session: &[u8], clash: &Clash, errors: &mut E) -> Option<u64> {
     if clash.told == 0 {
-        return true;
+        return Some(clash.found);
     }
-    let put = put_exchange(alloc, session, "told", clash.told, errors);
-    if put {
-        let told = Told(clash);
-        let _ = write_flushed(errors, format_args!("told: {told}\n"));
-    }
-    put
+    let first = put_exchange(alloc, session, "told", clash.told, errors)?;
+    let told = Told(clash);
+    let _ = write_flushed(errors, format_args!("told: {told}\n"));
+    Some(first)
 }
 
-/// Writes the record of a contradiction at which it was found, and what it says. Returns whether memory sufficed.
-fn put_found<E: Write>(alloc: Global, session: &[u8], clash: &Clash, errors: &mut E) -> bool {
-    let put = put_exchange(alloc, session, "found", clash.found, errors);
-    if put {
-        let otherwise = Otherwise(clash);
-        let _ = write_flushed(errors, format_args!("found: {otherwise}\n"));
-    }
-    put
+/// Writes the record of a contradiction at which it was found, and what it says. Returns as `put_both` does.
+fn put_found<E: Write>(
+    alloc: Global,
+    session: &[u8],
+    clash: &Clash,
+    errors: &mut E,
+) -> Option<u64> {
+    let first = put_exchange(alloc, session, "found", clash.found, errors)?;
+    let otherwise = Otherwise(clash);
+    let _ = write_flushed(errors, format_args!("found: {otherwise}\n"));
+    Some(first)
 }
 
-/// Writes how many passes were tried, what that means, and how to look closer.
+/// Writes how many passes were tried, and what that means.
 fn put_end<E: Write>(search: &Search<'_>, errors: &mut E) {
     let passes = search.passes();
     let _ = write_flushed(
         errors,
         format_args!("tried: {passes} passes\nThis is no proof that there is no tree.\n"),
     );
-    if let Some(clash) = search.clash() {
-        put_hint(clash, errors);
-    }
 }
 
-/// Says how to look closer.
-fn put_hint<E: Write>(clash: &Clash, errors: &mut E) {
-    let found = clash.found;
-    let first = match clash.told {
-        0 => found,
-        told => told.min(found),
-    };
+/// Says how to look closer at these records, and those between them.
+fn put_hint<E: Write>(first: u64, last: u64, errors: &mut E) {
     let _ = write_flushed(
         errors,
-        format_args!("To look closer: sftpv3 show --full --records {first}-{found} FILE\n"),
+        format_args!("To look closer: sftpv3 show --full --records {first}-{last} FILE\n"),
     );
 }
 
-/// Writes the line of a record, if it can be found; before it that of the request that it answers. If memory runs out,
-/// it says so and returns `false`.
+/// Writes the line of a record, if it can be found; before it that of the request that it answers. Returns the number
+/// of the first of them. If memory runs out, it says so and returns `None`.
 pub(crate) fn put_exchange<E: Write>(
     alloc: Global,
     session: &[u8],
     label: &str,
     number: u64,
     errors: &mut E,
-) -> bool {
+) -> Option<u64> {
     match put_lines(alloc, session, label, number, errors) {
+        Ok(first) => Some(first),
         Err(TranscriptError::NoMemory) => {
             report(errors, &Failure::OutOfMemory);
-            false
+            None
         }
-        _ => true,
+        Err(_) => Some(number),
     }
 }
 
-/// Writes the line of a record, and before it that of the request that it answers, as far as they can be found.
+/// Writes the line of a record, and before it that of the request that it answers, as far as they can be found. Returns
+/// the number of the first of them.
 fn put_lines<E: Write>(
     alloc: Global,
     session: &[u8],
     label: &str,
     number: u64,
     errors: &mut E,
-) -> Result<(), TranscriptError> {
+) -> Result<u64, TranscriptError> {
+    let mut first = number;
     if let Some(asked) = request_of(alloc, session, number)? {
         put_line(alloc, session, "asked", asked, errors)?;
+        first = asked;
     }
-    put_line(alloc, session, label, number, errors)
+    put_line(alloc, session, label, number, errors)?;
+    Ok(first)
 }
 
 /// The number of the request that this record answers, if it is a reply and both can be found.

@@ -8,9 +8,10 @@ use sftp_json::JsonLines;
 use sftp_verdicts::{object_of, parts_of_line, print_object, whole_lines};
 use std::io::Write;
 
-/// Prints the object of a session for which no tree was found, as the last step of a run. The numbers are those of the
-/// record that contradicts, and of the one that it contradicts; 0 stands for none.
+/// Prints the object of a session for which no tree was found, for a reason of this kind, as the last step of a run.
+/// The numbers are those of the record that contradicts, and of the one that it contradicts; 0 stands for none.
 pub(crate) fn print_untold<'a, O: Write>(
+    kind: &str,
     found: u64,
     told: u64,
     output: &mut O,
@@ -20,6 +21,7 @@ pub(crate) fn print_untold<'a, O: Write>(
 {
     let mut json = object_of("no-tree", output);
     json.number("record", found);
+    json.word("kind", kind);
     json.number("contradicts", told);
     print_object(json, Ending::Refused)
 }

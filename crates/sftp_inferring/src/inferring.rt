@@ -14,7 +14,9 @@ use sftp_files::{Ending, Failure, Keeping, System, print, read_at_most, write};
 use sftp_infer::{Excess, Search, Settings, TreeText};
 use sftp_path::{DEPTH_LIMIT, NoMemory, place_of_text};
 use sftp_profile::Profile;
-use sftp_verdicts::{InferOptions, TRANSCRIPT_LOST, record_of, umask_of, with_umask};
+use sftp_verdicts::{
+    InferOptions, TRANSCRIPT_LOST, parts_of_line, record_of, umask_of, with_umask,
+};
 use std::alloc::Global;
 use std::io::Write;
 
@@ -31,6 +33,11 @@ const PASSES: u32 = 300;
 const FILES: u64 = 1 << 30;
 
 /// Infers a tree from a session, and audits the session with it.
+///
+/// # Errors
+///
+/// `Usage` if the options cannot be meant so, such as a tree in the file of the transcript; a malformed transcript; a
+/// file or a stream that cannot be read or written; and memory that ran out, or a session whose tree would need more.
 pub fn infer<'a, R: System, O: Write, E: Write>(
     rt: &R,
     options: &InferOptions<'a>,
@@ -196,13 +203,28 @@ fn report_unpaired<'a, O: Write, E: Write>(
 {
     let record = record_of(refusal);
     if options.is_json {
-        return print_untold(record, 0, output);
+        return print_unpaired(alloc, refusal, output);
     }
     put_refusal(refusal, output)?;
-    if !options.explains || put_exchange(alloc, session, "found", record, errors) {
+    if !options.explains || put_exchange(alloc, session, "found", record, errors).is_some() {
         put_way(refusal, errors);
     }
     Ok(Ending::Refused)
+}
+
+/// Prints the object of a session whose records do not pair off. Its kind is what the line of the refusal ends in.
+fn print_unpaired<'a, O: Write>(
+    alloc: Global,
+    refusal: Refusal,
+    output: &mut O,
+) -> Result<Ending, Failure<'a>>
+    ensures { IsAuditStatus result }
+{
+    let line = format!(in alloc; "{refusal}")?;
+    let (_, kind) = parts_of_line(line.as_str());
+    let printed = print_untold(kind, record_of(refusal), 0, output);
+    drop(line);
+    printed
 }
 
 /// Says that the tree of what a session tells would be larger than it may be, or than any tree is.
@@ -214,12 +236,14 @@ fn exceed<'a, O: Write, E: Write>(
 ) -> Result<Ending, Failure<'a>>
     ensures { IsAuditStatus result }
 {
-    put_excess(excess, errors);
+    let has_memory = options.memory.is_some();
+    put_excess(excess, has_memory, errors);
     match excess {
         Excess::File(_) => print_none(options.is_json, 0, 0, output),
         Excess::Entries => print_none(options.is_json, 0, 0, output),
-        Excess::Files(_) => Err(Failure::OverLimit(options.transcript)),
-        Excess::Paths(_) => Err(Failure::OverLimit(options.transcript)),
+        Excess::Files(_) if has_memory => Err(Failure::OverLimit(options.transcript)),
+        Excess::Files(_) => Err(Failure::OutOfMemory),
+        Excess::Paths(_) => Err(Failure::OutOfMemory),
     }
 }
 
@@ -233,7 +257,7 @@ fn print_none<'a, O: Write>(
     ensures { IsAuditStatus result }
 {
     if is_json {
-        return print_untold(found, told, output);
+        return print_untold(kind_of(told, found), found, told, output);
     }
     print_contradiction(told, found, output)
 }
@@ -262,7 +286,8 @@ fn accept<'a, R: System, O: Write, E: Write>(
     )
 }
 
-/// Writes the tree file of the start and that of the end, if files are named for them.
+/// Writes the tree file of the start and that of the end, if files are named for them. Two names of one file that was
+/// not there are known for that only once the first tree is written.
 fn write_files<'a, R: System>(
     rt: &R,
     options: &InferOptions<'a>,
@@ -274,6 +299,7 @@ fn write_files<'a, R: System>(
         write_text(rt, name, options.keeping, &inferred.candidate.tree)?;
     }
     match (options.out, &inferred.ended.tree) {
+        (Some(name), Some(_)) if loses_start(rt, options) => Err(Failure::Unfit(name, START_LOST)),
         (Some(name), Some(tree)) => write(rt, name, options.keeping, tree.as_slice()),
         _ => Ok(()),
     }
@@ -355,6 +381,15 @@ fn write_best<'a, R: System>(
     match (options.best, search.best()) {
         (Some(name), Some(tree)) => write_text(rt, name, options.keeping, tree),
         _ => Ok(()),
+    }
+}
+
+/// Why there is no tree, as a word: by the records that contradict each other; 0 stands for none.
+fn kind_of(told: u64, found: u64) -> &'static str {
+    match (told, found) {
+        (0, 0) => "NotFound",
+        (0, _) => "Unexplained",
+        _ => "Contradiction",
     }
 }
 

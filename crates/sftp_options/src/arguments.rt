@@ -203,7 +203,7 @@ pub(crate) const INFER: &[Argument] = &[
     (
         "explain",
         Form::Flag,
-        "Print on standard error which records contradict each other",
+        "Print on standard error which records contradict each other, or where the transcript is malformed",
     ),
     (
         "json",

@@ -98,8 +98,8 @@ transcript together, and 1 KB for each place. With --out, the tree file of the e
 size alone is known takes as much as it has. All files together may have as many bytes as the transcript, and 1 GiB;
 with --memory they and the transcript together may have BYTES. Otherwise the status is 3, and standard error says so:
 
-  no tree: the files of the session have 8589934592 bytes in all
-  sftpv3: out of memory: session.transcript needs more than '--memory' allows
+  no tree: the files of the session have 8589934592 bytes in all; more than 1 GiB needs '--memory'
+  sftpv3: out of memory
 
 'sftpv3 audit --tree unknown' does the same, and writes no tree at the start. A tree file of that name is './unknown'.";
 

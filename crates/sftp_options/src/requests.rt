@@ -46,6 +46,9 @@ impl<'a> Request<'a> {
     pub fn explained_files(&self) -> Option<(&'a str, &'a str)> {
         match self {
             Request::Audit(files) if files.explains => Some((files.tree, files.transcript)),
+            Request::Infer(options) if options.explains => {
+                Some((options.transcript, options.transcript))
+            }
             Request::Show(options) if options.explains => Some((options.file, options.file)),
             _ => None,
         }

@@ -5,9 +5,8 @@ ghost use Rattle.sftp_files.specs.Failures.{IsUnwritten};
 ghost use Rattle.sftp_verdicts.specs.Verdicts.{IsAuditStatus};
 
 use sftp_audit::blank_tree;
-use sftp_commands::is_lost;
 use sftp_files::{Ending, Failure, Keeping, System, print, write_last};
-use sftp_verdicts::{AuditOptions, InferOptions, TRANSCRIPT_LOST};
+use sftp_verdicts::{AuditOptions, InferOptions};
 use std::io::{IsTerminal, Write};
 use std::time::Clock;
 
@@ -46,9 +45,6 @@ pub(crate) fn audit<'a, R: System + Clock, O: Write, E: Write + IsTerminal>(
 ) -> Result<Ending, Failure<'a>>
     ensures { IsAuditStatus result }
 {
-    if is_lost(rt, files.out, Some(files.transcript)) {
-        return Err(Failure::of_misuse(rt.alloc(), TRANSCRIPT_LOST));
-    }
     if files.tree != UNKNOWN {
         return sftp_auditing::audit(rt, files, output, errors);
     }

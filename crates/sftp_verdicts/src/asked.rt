@@ -47,14 +47,21 @@ pub struct InferOptions<'a> {
     pub best: Option<&'a str>,
     /// The file to write the final tree to.
     pub out: Option<&'a str>,
+    /// How these files are written.
     pub keeping: Keeping,
+    /// The most bytes that the transcript and the files of the session may have together.
     pub memory: Option<u64>,
+    /// Whether standard error says which records contradict each other, or where the transcript is malformed.
     pub explains: bool,
+    /// Whether the verdict is a JSON object.
     pub is_json: bool,
+    /// Which departures from the strict reading are accepted; none where the session is judged strictly.
     pub profile: Option<Profile>,
+    /// The permissions that are taken from whatever is made, as octal digits.
     pub umask: Option<&'a str>,
     /// Where relative paths begin.
     pub home: Option<&'a str>,
+    /// Whether no limit of the tree is below those of `raise`, also where the session does not need that.
     pub is_raised: bool,
     /// The most passes.
     pub passes: Option<u64>,

@@ -16,6 +16,10 @@ pub fn object_of<'o, O: Write>(verdict: &str, output: &'o mut O) -> JsonLines<'o
 }
 
 /// Ends an object, and prints it as the last step of a run.
+///
+/// # Errors
+///
+/// If standard output cannot be written, and `OutOfMemory`.
 pub fn print_object<'a, O: Write>(
     object: JsonLines<'_, O>,
     ending: Ending,
