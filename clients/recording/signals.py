@@ -2,14 +2,14 @@
 try:
     import _signal as known
     from _signal import (SIG_DFL, SIG_IGN, SIG_SETMASK, SIGCHLD, SIGHUP, SIGINT, SIGKILL, SIGPIPE, SIGTERM, SIGXFSZ,
-                         getsignal, pthread_sigmask, set_wakeup_fd, signal)
+                         default_int_handler, getsignal, pthread_sigmask, set_wakeup_fd, signal)
 except ImportError:
     import signal as known
     from signal import (SIG_DFL, SIG_IGN, SIG_SETMASK, SIGCHLD, SIGHUP, SIGINT, SIGKILL, SIGPIPE, SIGTERM, SIGXFSZ,
-                        getsignal, pthread_sigmask, set_wakeup_fd, signal)
+                        default_int_handler, getsignal, pthread_sigmask, set_wakeup_fd, signal)
 
 __all__ = ["SIG_DFL", "SIG_IGN", "SIG_SETMASK", "SIGCHLD", "SIGHUP", "SIGINT", "SIGKILL", "SIGPIPE", "SIGTERM",
-           "SIGXFSZ", "getsignal", "name_of", "pthread_sigmask", "set_wakeup_fd", "signal"]
+           "SIGXFSZ", "default_int_handler", "getsignal", "name_of", "pthread_sigmask", "set_wakeup_fd", "signal"]
 
 
 def name_of(number):
