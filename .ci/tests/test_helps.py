@@ -1,12 +1,19 @@
-"""Each script of clients/, fuzz/ and bench/ says what it is for when it is asked by `--help`, and does nothing else."""
+"""Each script of clients/, fuzz/ and bench/ says what it is for when it is asked by `--help`, and does nothing else. It
+says so if that cannot be printed, and a user's interrupt ends it without a traceback, also while it imports."""
 import os
+import re
 import signal
 import subprocess
+import sys
+import tempfile
 import unittest
 from concurrent import futures
 from pathlib import Path
 
 TOP = Path(__file__).resolve().parents[2]
+
+# The commands that are installed.
+COMMANDS = ("nightly", "page", "probe", "record", "recordd", "serve", "tree", "walk")
 
 # Seconds in which a script has to say what it is for, however busy the machine is.
 LONG = 1800
@@ -15,6 +22,112 @@ LONG = 1800
 def scripts() -> list[Path]:
     return sorted(it for folder in ("clients", "fuzz", "bench") for it in (TOP / folder).iterdir()
                   if it.is_file() and os.access(it, os.X_OK) and it.read_bytes().startswith(b"#!"))
+
+
+# Runs a script that gets SIGINT when it imports the Nth module behind recording.standard, which every command begins
+# with; with 0 it prints how many these are.
+STRIKES = """
+import os, runpy, signal, sys
+number, script = int(sys.argv[1]), sys.argv[2]
+signal.signal(signal.SIGINT, signal.default_int_handler)
+class Finder:
+    found = []
+    def find_spec(self, name, path, target=None):
+        self.found += [name] if self.found or name == "recording.signals" else []
+        if len(self.found) - 1 == number > 0:
+            os.kill(os.getpid(), signal.SIGINT)
+sys.meta_path.insert(0, Finder())
+sys.argv = [script, "--help"]
+try:
+    runpy.run_path(script, run_name="__main__")
+finally:
+    if not number:
+        os.write(2, str(len(Finder.found) - 1).encode())
+"""
+
+
+# Runs a script that gets SIGTERM behind its work, before the interpreter ends.
+ENDS = """
+import atexit, os, runpy, signal, sys
+def strike():
+    os.kill(os.getpid(), signal.SIGTERM)
+    for _ in range(1000):
+        pass
+atexit.register(strike)
+sys.argv[0] = {script!r}
+runpy.run_path({script!r}, run_name="__main__")
+"""
+
+# A test script, and `.ci/pages`, that a user interrupts.
+QUIET = """
+import sys
+sys.path.insert(0, "clients")
+import trials.steps
+raise KeyboardInterrupt
+"""
+PAGES = """
+import os, runpy, signal, subprocess, sys
+subprocess.run = lambda *_, **__: os.kill(os.getpid(), signal.SIGINT)
+sys.argv = [".ci/pages"]
+sys.path.insert(0, ".ci")
+runpy.run_path(".ci/pages", run_name="__main__")
+"""
+
+# What each of these does soon.
+ENDING = {
+    "nightly": ["--records", "ROOM", "--state", "ROOM/state", "root", "ROOM"],
+    "page": ["examples/wrong-byte.transcript", "-o", "ROOM/page.html"],
+    "tree": ["--out", "ROOM/tree", "bench/crates/sftp_bench/src"],
+    "walk": ["--session", "ROOM/session", "--", "/bin/false"],
+}
+
+
+def servers() -> list[Path]:
+    """The scripts that start a server which is installed everywhere."""
+    return [TOP / "clients/servers" / it for it in ("any", "gesftpserver", "openssh")]
+
+
+def to_full(script: Path) -> str:
+    """Returns what is wrong with the answer of a script whose standard output is a full disk."""
+    with open("/dev/full", "wb") as full:
+        ran = subprocess.run([script, "--help"], stdin=subprocess.DEVNULL, stdout=full, stderr=subprocess.PIPE,
+                             env={**os.environ, "SFTPV3": "/bin/false"}, timeout=LONG)
+    said = ran.stderr.decode()
+    is_right = re.fullmatch("[a-z0-9-]+: .*(standard output|stdout): No space left on device\n", said)
+    return "" if is_right and ran.returncode == 3 else f"status {ran.returncode}, {said[-200:]!r}"
+
+
+def struck(script: Path, number: int) -> tuple[int, str]:
+    """The status of a script that is interrupted at its Nth import, and what it says to standard error."""
+    ran = subprocess.run([sys.executable, "-B", "-c", STRIKES, str(number), script],
+                         stdin=subprocess.DEVNULL, stdout=subprocess.DEVNULL, stderr=subprocess.PIPE, timeout=LONG,
+                         env={**os.environ, "SFTPV3": "/bin/false"})
+    return ran.returncode, ran.stderr.decode()
+
+
+def struck_at_end(script: Path) -> str:
+    """Returns what is wrong with a script to which SIGTERM comes when it has done its work."""
+    code = ENDS.format(script=str(script))
+    with tempfile.TemporaryDirectory() as room:
+        words = [it.replace("ROOM", room) for it in ENDING[script.name]]
+        ran = subprocess.run([sys.executable, "-B", "-c", code, *words], stdin=subprocess.DEVNULL,
+                             stdout=subprocess.DEVNULL, stderr=subprocess.PIPE, timeout=LONG, cwd=TOP,
+                             env={**os.environ, "SFTPV3": "/bin/false"})
+    said = ran.stderr.decode()
+    is_right = ran.returncode in (0, 3, 128 + signal.SIGTERM) and "Traceback" not in said
+    return "" if is_right else f"status {ran.returncode}, {said[-300:]!r}"
+
+
+def interrupted(script: Path) -> str:
+    """Returns what is wrong with a script that is interrupted at its first, its last and an import between them."""
+    status, said = struck(script, 0)
+    if not said.isdecimal() or int(said) < 2:
+        return f"it imports {said!r} behind recording.standard, status {status}"
+    for number in {1, (int(said) + 1) // 2, int(said)}:
+        status, found = struck(script, number)
+        if status not in (-signal.SIGINT, 128 + signal.SIGINT) or found:
+            return f"import {number} of {said}: status {status}, {found[-200:]!r}"
+    return ""
 
 
 def wrong(script: Path, word: str) -> str:
@@ -34,12 +147,36 @@ def wrong(script: Path, word: str) -> str:
 
 
 class Helps(unittest.TestCase):
+    maxDiff = None
+
     def test_each_script_says_what_it_is_for(self):
         found = scripts()
         self.assertGreater(len(found), 30)
         with futures.ThreadPoolExecutor(8) as pool:
             told = dict(zip(found, pool.map(lambda it: wrong(it, "--help"), found)))
-        self.assertEqual({it.name: why for it, why in told.items() if why}, {})
+        self.assertEqual({str(it.relative_to(TOP)): why for it, why in told.items() if why}, {})
+
+    def test_each_script_says_that_it_cannot_print(self):
+        with futures.ThreadPoolExecutor(8) as pool:
+            found = [*scripts(), *servers()]
+            told = dict(zip(found, pool.map(to_full, found)))
+        self.assertEqual({str(it.relative_to(TOP)): why for it, why in told.items() if why}, {})
+
+    def test_an_interrupt_ends_each_command_while_it_imports(self):
+        found = [TOP / "clients" / it for it in COMMANDS] + servers()
+        with futures.ThreadPoolExecutor(8) as pool:
+            told = dict(zip(found, pool.map(interrupted, found)))
+        self.assertEqual({str(it.relative_to(TOP)): why for it, why in told.items() if why}, {})
+
+    def test_an_interrupt_ends_other_scripts_without_a_traceback(self):
+        for code in (QUIET, PAGES):
+            ran = subprocess.run([sys.executable, "-B", "-c", code], cwd=TOP, stdin=subprocess.DEVNULL, timeout=LONG,
+                                 stdout=subprocess.DEVNULL, stderr=subprocess.PIPE)
+            self.assertEqual((ran.returncode in (-signal.SIGINT, 128 + signal.SIGINT), ran.stderr), (True, b""), code)
+
+    def test_a_signal_at_the_end_does_no_harm(self):
+        told = {it: struck_at_end(TOP / "clients" / it) for it in ENDING}
+        self.assertEqual({it: why for it, why in told.items() if why}, {})
 
 
 if __name__ == "__main__":

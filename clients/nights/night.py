@@ -2,6 +2,7 @@
 lines that it prints."""
 import fcntl
 import os
+import re
 import resource
 import select
 import signal
@@ -55,6 +56,17 @@ def said_beside(record, others):
     return f" (beside {', '.join(beside[:NAMED])}{more})" if beside else ""
 
 
+def said_of_unanswered(first):
+    """Lines on what is known of an accepted session in which requests have no reply, by the line of the audit: the
+    record does not have which of its two ends went first."""
+    found = re.search(r", (\d+) unanswered(?:, (\d+) not judged)?", first)
+    if not found:
+        return []
+    later = f", and has its replies to {found[2]} later ones" if found[2] else ""
+    return [f"the record ends before the server's reply to {found[1]} request{'s' * (found[1] != '1')}{later}: its "
+            "client or the server went first; if it was the server, the recorder's log says how"]
+
+
 class Unsaid(Exception):
     """Standard output failed, so nothing more is judged."""
 
@@ -69,7 +81,7 @@ class Night:
             self.options += ["--memory", str(given.memory)]
         self.spool = Spool(given.records, given.number)
         self.folders = [os.path.join(os.getcwd(), it) for it in given.folders]
-        self.status = self.accepted = self.cut = 0
+        self.status = self.accepted = self.unanswered = 0
         # when the night is over, and whether a record was looked at in it
         self.until, self.is_begun = time.monotonic() + given.night_seconds, False
         self.has_running = False
@@ -127,10 +139,12 @@ class Night:
         first, *more = named(found.lines(), f"/proc/self/fd/{copy.file}", name) or [""]
         if found.status == 0:
             self.say(f"{name}: {first}{note}")
+            unanswered = said_of_unanswered(first)
+            self.say_lines(unanswered)
             with ending.put_off():
                 accepting.accept(copy, after, self.tree)
             self.accepted += 1
-            self.cut += " unanswered" in first
+            self.unanswered += bool(unanswered)
             return
         if found.status == 3 and first.startswith("sftpv3: out of memory"):
             self.give_up(copy, name, f": the audit needs more than {self.given.memory} bytes of memory "
@@ -265,8 +279,8 @@ class Night:
         self.say(f"{self.counted()}; {why}the folder is not compared{since}", int(is_late))
 
     def counted(self):
-        cut = f", {self.cut} of them cut" if self.cut else ""
-        return f"{self.accepted} session{'' if self.accepted == 1 else 's'} accepted{cut}"
+        unanswered = f", {self.unanswered} of them with unanswered requests" if self.unanswered else ""
+        return f"{self.accepted} session{'' if self.accepted == 1 else 's'} accepted{unanswered}"
 
     def tell_difference(self, now):
         try:
@@ -282,7 +296,7 @@ class Night:
         if found.status == 0:
             self.say(f"{self.counted()}; the folder is as they left it")
             return
-        unjudged = ", or requests of theirs that were not judged" if self.cut else ""
+        unjudged = ", or requests of theirs that were not judged" if self.unanswered else ""
         self.say(f"{self.counted()}; something else changed the folder{unjudged}:", 1)
         self.say_lines(found.lines())
 

@@ -82,6 +82,39 @@ def ending_servers(steps, room):
         steps.check(f"server {word}: the client sees the end", receive(process, 1) == b"")
 
 
+# Words of the stub that ends first, and what the recorder says of it once a VERSION and one STAT were asked for.
+FIRST = [
+    ("crashes", "the server was ended by SIGKILL before the client left, with 1 request unanswered"),
+    ("half", "the server was ended by SIGKILL before the client left, with 1 request unanswered"),
+    ("gives-up", "the server ended with status 9 before the client left, with 1 request unanswered"),
+    ("ends", "the server ended with status 7 before the client left"),
+    ("closes-output", "the server closed its output before the client left"),
+]
+
+
+def servers_that_end_first(steps, room):
+    """A record does not have why it ends: the recorder says so, to standard error and the log."""
+    for word, told in FIRST:
+        process = room.stub("t", word, options=["--overwrite", "--log", "log"])
+        open_session(process)
+        if told.endswith("unanswered"):
+            process.stdin.write(request(1, "STAT", b"/"))
+        ended(process, SOON)
+        log = (room.folder / "log").read_text()
+        steps.check(f"server {word}: the recorder says: {told}", errors(process) == f"sftpv3-record: {told}\n" and
+                    log.endswith(f": {told}\n") and log.count("\n") == 1, f"{log}{errors(process)}")
+        (room.folder / "log").unlink()
+    for word, closes in (("", ["stdin"]), ("", ["stdin", "stdout"]), ("stays", ["stdin", "stdout"]),
+                         ("crashes", ["stdin"])):
+        process = room.stub("t", word, options=["--overwrite", "--log", "log"])
+        open_session(process)
+        for it in closes:
+            close(getattr(process, it))
+        ended(process, SOON)
+        steps.check(f"a client that leaves first, by its {' and '.join(closes)}, server {word}: nothing is said",
+                    errors(process) == "" == (room.folder / "log").read_text(), errors(process))
+
+
 def signals(steps, room):
     for number in (signal.SIGTERM, signal.SIGHUP, signal.SIGINT):
         for words in ((), ("ignores",)):
@@ -210,5 +243,5 @@ def sockets(steps, room):
     all_ended(steps, "over a socket, which the client closes", room, process, {128 + signal.SIGTERM})
 
 
-TRIALS = (vanishing_client, streams, pipes_alone, ending_servers, signals, ignored_signals, whole_sessions,
-          slow_client, sockets, sending_servers)
+TRIALS = (vanishing_client, streams, pipes_alone, ending_servers, servers_that_end_first, signals, ignored_signals,
+          whole_sessions, slow_client, sockets, sending_servers)

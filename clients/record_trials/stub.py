@@ -8,7 +8,9 @@
                           after the end of its input and prints `saved` to standard error; floods: after the end of
                           its input it sends replies that nobody asked for, without end; endless: a packet without
                           end, as part of which its reply to a STAT begins; drips: a byte of its reply to a STAT ten
-                          times a second; leaves: it ends, and a process that it leaves behind floods
+                          times a second; leaves: it ends, and a process that it leaves behind floods; crashes: by
+                          SIGKILL at a STAT, with no reply; gives-up: there with status 9; half: there by SIGKILL in
+                          the middle of its reply
 """
 import os
 import signal
@@ -76,6 +78,16 @@ def go_on(piece, pause=0.0):
         time.sleep(pause)
 
 
+def end_at_stat(words, reply):
+    """What a word asks for in place of the reply to a STAT."""
+    if "half" in words:
+        write_all(reply[:-3])
+    if {"crashes", "half"} & set(words):
+        os.kill(os.getpid(), signal.SIGKILL)
+    if "gives-up" in words:
+        sys.exit(9)
+
+
 def end_badly(words):
     """What a word asks for once the input has ended."""
     if "leaves" in words:
@@ -104,6 +116,8 @@ def main(words):
             write_all(bytes.fromhex("0003ffff65"))
             go_on(b"x", 0.1)
         reply = answer(request)
+        if request[0] == 17:
+            end_at_stat(words, reply)
         if "wrong" in words and count == 4:
             reply = reply[:5] + b"\xff\xff\xff\xfe" + reply[9:]
         if "late" in words and count > 1:

@@ -13,7 +13,6 @@ from recording.packets import OPENING
 from recording.server import NotStarted, start
 from recording.sessions import OWN_FAILURE, Session, Signals
 from recording.sinks import Failed, FileSink, SpoolSink, TimesSink
-from recording.standard import begin
 from recording.ways import named_twice, refuse_link_of_another
 
 NAME = "sftpv3-record"
@@ -264,13 +263,10 @@ def run(act, name):
         write_error(f"{name}: out of memory\n")
     except OSError as error:
         write_error(f"{name}: {error.strerror or error}\n")
-    except KeyboardInterrupt:
-        return 130
     return OWN_FAILURE
 
 
 def record(words=None):
-    begin()
     return run(lambda: record_session(read_options(sys.argv[1:] if words is None else words)), NAME)
 
 
@@ -299,7 +295,6 @@ def keep_records(options):
 
 
 def recordd(words=None):
-    begin()
     from recording.parsers import daemon_parser
     options = daemon_parser().parse_args(words)
     return run(lambda: keep_records(options), "sftpv3-recordd")

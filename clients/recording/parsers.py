@@ -1,15 +1,20 @@
 """The command lines of sftpv3-record and sftpv3-recordd: options, help and complaints, by argparse;
 complaints of all scripts about theirs."""
 import argparse
+import os
 from contextlib import suppress
 
 from recording.notices import printable
 from recording.options import AUDIT_FLAGS, AUDIT_MEMORY, AUDIT_VALUES, GRACE, NAME
+from recording.standard import print_or_end
 
 
 class Parser(argparse.ArgumentParser):
     """A parser whose complaints show what it was given as one line that does nothing to a terminal. If standard
-    error fails, the status is the same."""
+    error fails, the status is the same; if the help cannot be printed, it is 3."""
+
+    def print_help(self, file=None):
+        print_or_end(self.format_help(), os.path.basename(self.prog))
 
     def error(self, message):
         with suppress(OSError):

@@ -10,6 +10,8 @@ except ImportError:
 
 # How much a socket to the server holds, where the system allows it.
 ROOM = 1 << 19
+# Signals that end a server in order, or since its client is gone.
+ORDERLY = (signals.SIGPIPE, signals.SIGTERM, signals.SIGHUP, signals.SIGINT)
 
 
 def one_way():
@@ -73,6 +75,14 @@ class Server:
     def status(self):
         """Its status; 128 and the number of the signal that ended it."""
         return 128 + signals.SIGKILL if self.code is None else self.code if self.code >= 0 else 128 - self.code
+
+    def has_crashed(self):
+        """Whether a signal ended it, which none sends that ends a server in order."""
+        return -self.code > 0 and -self.code not in ORDERLY
+
+    def end_told(self):
+        """How it ended."""
+        return f"ended with status {self.code}" if self.code >= 0 else f"was ended by {signals.name_of(-self.code)}"
 
     def close_input(self):
         os.close(self.input)

@@ -104,6 +104,8 @@ class Session:
         self.status = None
         self.has_input = self.has_output = self.has_client_input = self.has_client_output = True
         self.ending = None
+        # what the server did that ended the session, if it was the first
+        self.first = None
         self.moved = self.worked = 0.0
         self.killing = []
         self.given_up = False
@@ -227,6 +229,7 @@ class Session:
     def break_target(self, flow):
         """The target does not take any more: the server reads nothing more, or the client is gone."""
         if flow is self.asked:
+            self.note_server("closed its input")
             self.asked.drop()
             self.close_input()
         else:
@@ -263,6 +266,11 @@ class Session:
             self.ending = self.worked = time.monotonic()
             self.note_moved()
 
+    def note_server(self, what):
+        """The server did what ends the session, unless that ends already."""
+        if self.ending is None and not self.asked.ended:
+            self.first = what
+
     def cut(self, status):
         """Ends the session at once: what is held is dropped, all pipes are closed."""
         if status is not None and self.status is None:
@@ -293,6 +301,7 @@ class Session:
         if self.has_output and self.server.has_ended():
             self.drain()
         if self.has_output and self.replied.ended:
+            self.note_server("closed its output")
             self.close_output()
         if not self.has_output and not self.waiting:
             self.asked.drop()
@@ -339,6 +348,17 @@ class Session:
         else:
             self.notices.say("the server does not end by SIGKILL, and is left behind")
             self.given_up = True
+
+    def tell_server(self):
+        """Says how the server ended, if that ended the session or is its crash. The record does not have it."""
+        ended_itself = self.server.has_ended() and not self.killing
+        if not self.first and not (ended_itself and self.server.has_crashed()):
+            return
+        what = self.server.end_told() if ended_itself else self.first
+        when = " before the client left" if self.first else ""
+        count = self.awaiting.requests_left()
+        owed = f", with {count} request{'s' * (count > 1)} unanswered" if count else ""
+        self.notices.say(f"the server {what}{when}{owed}")
 
     # the loop
 
@@ -411,6 +431,7 @@ class Session:
             self.progress()
             if self.ending is not None:
                 self.hurry()
+        self.tell_server()
         return self.server.status() if self.status is None else self.status
 
 
@@ -428,6 +449,12 @@ class Awaiting:
     def is_owed(self):
         """Whether the server owes a reply."""
         return self.replied.too_long is None and self.asked.packets > self.replied.packets
+
+    def requests_left(self):
+        """How many requests have no reply, INIT and VERSION apart, as far as packets are counted."""
+        if not self.is_read() or self.asked.too_long is not None or self.replied.too_long is not None:
+            return 0
+        return max(0, self.asked.packets - max(1, self.replied.packets))
 
     def are_unknown(self):
         return self.replied.too_long is None and not self.is_read()

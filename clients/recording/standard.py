@@ -9,7 +9,9 @@ from recording import signals
 
 
 def begin():
-    """To be called before all else."""
+    """To be called before all else, other imports too: a user's interrupt then ends the script without a traceback."""
+    if signals.getsignal(signals.SIGINT) is signals.default_int_handler:
+        signals.signal(signals.SIGINT, signals.SIG_DFL)
     open_standard_files()
     # where it is ignored, each process that the script starts seems to have ended with status 0
     signals.signal(signals.SIGCHLD, signals.SIG_DFL)
@@ -51,6 +53,25 @@ def end(main, tell, failed: int = 3) -> int:
         tell(f"standard output: {why}")
     left_unsaid(sys.stderr)
     return failed if why else status
+
+
+def print_or_end(text: str, name: str) -> None:
+    """Prints a text, such as what a script says of itself. Where standard output does not take it, says why, and ends
+    the script of this name with status 3."""
+    why = None
+    try:
+        sys.stdout.write(text)
+    except OSError as error:
+        why = error.strerror
+    why = left_unsaid(sys.stdout) or why
+    if not why:
+        return
+    try:
+        sys.stderr.write(f"{name}: standard output: {why}\n")
+    except OSError:
+        pass
+    left_unsaid(sys.stderr)
+    raise SystemExit(3)
 
 
 def left_unsaid(stream) -> str | None:

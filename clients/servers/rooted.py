@@ -18,6 +18,9 @@ import sys
 HERE = os.path.dirname(os.path.realpath(__file__))
 sys.path.insert(0, os.path.dirname(HERE))
 
+from recording.standard import begin, print_or_end  # noqa: E402 (the folder above is not searched before)
+
+begin()
 import apart  # noqa: E402 (the folder above is not searched before)
 import folders  # noqa: E402
 import mounts  # noqa: E402
@@ -25,7 +28,6 @@ import streams  # noqa: E402
 from probing.program import NotBuilt  # noqa: E402
 from recording import ending, temporary  # noqa: E402
 from recording.notices import printable  # noqa: E402
-from recording.standard import begin  # noqa: E402
 
 LDD = "/usr/bin/ldd"
 # How many seconds it may take, and as whom it runs.
@@ -47,10 +49,9 @@ def fail(text, status=3):
 
 def read_words(about, least=1):
     """Ends the script if its words ask for help, which its text `about` has, or are fewer than it needs."""
-    begin()
     what, usage, more = (it.strip() for it in about.split("\n\n", 2))
     if sys.argv[1:2] in (["-h"], ["--help"]):
-        print(f"usage: {usage}\n\n{what}\n\n{more}")
+        print_or_end(f"usage: {usage}\n\n{what}\n\n{more}\n", os.path.basename(sys.argv[0]))
         sys.exit(0)
     if len(sys.argv) <= least:
         fail(f"usage: {usage}", 2)

@@ -6,7 +6,6 @@ import time
 from recording import naming
 from recording.ways import refuse_link_of_another
 from recording.notices import Notices, write_error
-from recording.standard import begin
 from serving.inputs import Filled, Given, is_local_socket, shut_output
 from serving.options import NAME, Misused, Options, read
 from serving.saving import Saving, Unfit
@@ -261,7 +260,6 @@ def complain(text: str | None):
 
 def serve(words: list[str]) -> int:
     """Does the work of the command. No fault ends with a traceback, or with status 0."""
-    begin()
     log = Log(NAME)
     try:
         if "--help" in words or "-h" in words:

@@ -39,6 +39,7 @@ def run_cron(path):
 
 
 def is_accepted(said, count):
-    """Whether the night accepted so many sessions, cut or not, and found the folder as they left it."""
+    """Whether the night accepted so many sessions, with all replies or not, and found the folder as they left it."""
     sessions = f"{count} session{'' if count == 1 else 's'} accepted"
-    return re.search(rf": {sessions}(, \d+ of them cut)?; the folder is as they left it", said) is not None
+    unanswered = r"(, \d+ of them with unanswered requests)?"
+    return re.search(f": {sessions}{unanswered}; the folder is as they left it", said) is not None

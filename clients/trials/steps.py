@@ -11,6 +11,16 @@ import sys
 import threading
 
 from probing.program import TOP
+from recording.standard import print_or_end
+
+
+def tell_fault(kind, error, trace):
+    """Prints the traceback of what ends a test script, unless its user interrupted it."""
+    if not issubclass(kind, KeyboardInterrupt):
+        sys.__excepthook__(kind, error, trace)
+
+
+sys.excepthook = tell_fault
 
 
 class Steps:
@@ -64,7 +74,7 @@ def attempt(steps, trial, room):
 def answer_help():
     """Prints what the script says of itself, and ends it, if it is asked by `--help`."""
     if HELP & set(sys.argv[1:]):
-        print(sys.modules["__main__"].__doc__.strip())
+        print_or_end(sys.modules["__main__"].__doc__.strip() + "\n", os.path.basename(sys.argv[0]))
         sys.exit(0)
 
 
