@@ -1,8 +1,9 @@
-"""What `.ci/build` leaves behind when crates cannot be proved. Expected values are written by hand."""
+"""What `.ci/build` says and leaves behind when crates cannot be proved. Expected values are written by hand."""
 import contextlib
 import importlib.machinery
 import importlib.util
 import io
+import os
 import subprocess
 import sys
 import tempfile
@@ -53,6 +54,15 @@ class Failing(unittest.TestCase):
             self.assertFalse(work.all_proved())
         self.assertEqual(said.getvalue(), "program: one is not proved\n")
         self.assertEqual(long.poll(), -15)
+
+    def test_without_the_toolchain(self):
+        module = build()
+        with tempfile.TemporaryDirectory() as folder, contextlib.redirect_stderr(io.StringIO()) as said, \
+                mock.patch.object(sys, "argv", ["build", folder, "sftpv3"]), \
+                mock.patch.dict(os.environ, {"PATH": "/nowhere"}):
+            self.assertEqual(module.main([folder, "sftpv3"]), 3)
+        self.assertEqual(said.getvalue(), "sftpv3: there is no rt in the PATH: the Rattle toolchain, which has it, "
+                                          "proves and builds the program\n")
 
 
 if __name__ == "__main__":
