@@ -125,19 +125,21 @@ def wrong_syntax(share):
                     yield f"install: {' '.join(map(str, words))} ended with status {status}\n{printed}"
 
 
+# What the completions of bash make of the last of some words.
+COMPLETED = [(["sftpv3", "aud"], "audit"), (["sftpv3-probe", "--see"], "--seeds"),
+             (["sftpv3", "audit", "--profile", ""], "posix posix-user"),
+             (["sftpv3", "infer", "--allow", "dots,sp"], "dots,special"), (["sftpv3", "audit", "--most", ""], "")]
+
+
 def wrong_completion(share):
-    """Asks the completions of bash, if there is one, what they make of the beginning of a subcommand."""
-    if shutil.which("bash"):
-        script = f"source '{share}/bash-completion/completions/sftpv3'\n" \
-                 'COMP_WORDS=(sftpv3 aud) COMP_CWORD=1\n_sftpv3\necho "${COMPREPLY[@]}"'
+    """Asks the completions of bash, if there is one, what they make of the beginning of a word."""
+    for words, wanted in COMPLETED if shutil.which("bash") else []:
+        name, typed = words[0], " ".join(f"'{it}'" for it in words)
+        script = f"source '{share}/bash-completion/completions/{name}'\nCOMP_WORDS=({typed})\n" \
+                 f'COMP_CWORD={len(words) - 1}\n_{name.replace("-", "_")}\necho "${{COMPREPLY[@]}}"'
         printed = called(["bash", "-c", script], "")[1]
-        if printed != "audit\n":
-            yield f"install: completing `aud` gives {printed!r}"
-        script = f"source '{share}/bash-completion/completions/sftpv3-probe'\n" \
-                 'COMP_WORDS=(sftpv3-probe --see) COMP_CWORD=1\n_sftpv3_probe\necho "${COMPREPLY[@]}"'
-        printed = called(["bash", "-c", script], "")[1]
-        if printed != "--seeds\n":
-            yield f"install: completing `sftpv3-probe --see` gives {printed!r}"
+        if printed != f"{wanted}\n":
+            yield f"install: completing {typed} gives {printed!r}"
 
 
 def wrong_mode(prefix):

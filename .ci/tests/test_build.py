@@ -1,53 +1,68 @@
-"""What `.ci/build` leaves behind: no process, whatever has ended by then."""
+"""What `.ci/build` says and leaves behind when crates cannot be proved. Expected values are written by hand."""
+import contextlib
+import importlib.machinery
 import importlib.util
+import io
+import os
 import subprocess
 import sys
+import tempfile
+import time
 import unittest
-from importlib.machinery import SourceFileLoader
 from pathlib import Path
+from types import SimpleNamespace
 from unittest import mock
 
 sys.dont_write_bytecode = True
-CI = Path(__file__).resolve().parents[1]
-sys.path.insert(0, str(CI))
+FOLDER = Path(__file__).resolve().parents[1]
+sys.path.insert(0, str(FOLDER))
 
 
-def loaded():
-    loader = SourceFileLoader("build", str(CI / "build"))
-    found = importlib.util.module_from_spec(importlib.util.spec_from_loader("build", loader))
-    loader.exec_module(found)
-    return found
+def build():
+    """The script as a module."""
+    loader = importlib.machinery.SourceFileLoader("build", str(FOLDER / "build"))
+    module = importlib.util.module_from_spec(importlib.util.spec_from_loader("build", loader))
+    loader.exec_module(module)
+    return module
 
 
-class Ends(unittest.TestCase):
-    def begun(self, *commands):
-        """A build whose crates are proved by these commands, the first of which is not."""
-        made = object.__new__(loaded().Build)
-        made.names, made.proved = list(commands), []
-        made.running = {it: subprocess.Popen(it.split(), stdout=subprocess.DEVNULL, stderr=subprocess.DEVNULL,
-                                            start_new_session=True) for it in commands}
-        return made
+COMMANDS = {"one": ["false"], "two": ["false"], "long": ["sleep", "600"]}
 
-    def test_a_crate_that_is_not_proved_beside_one_that_has_ended(self):
-        made = self.begun("false", "true")
-        others = dict(made.running)
-        for it in others.values():
-            it.wait()
 
-        def end_one():
-            made.running.pop("false")
-            return False
-        with mock.patch.object(made, "begin_ready"), mock.patch.object(made, "end_one", end_one):
-            self.assertFalse(made.all_proved())
+def begin(work, name, *_):
+    """Begins a command in place of a proof."""
+    (work.rooms / f"{name}.log").write_text("")
+    work.running[name] = subprocess.Popen(COMMANDS[name], start_new_session=True)
 
-    def test_a_crate_that_is_still_proved_is_ended(self):
-        made = self.begun("false", "true", "sleep 60")
-        sleeps = made.running["sleep 60"]
-        made.running["false"].wait()
-        made.running["true"].wait()
-        with mock.patch.object(made, "begin_ready"), mock.patch.object(made, "end_one", lambda: False):
-            self.assertFalse(made.all_proved())
-        self.assertEqual(sleeps.returncode, -15)
+
+class Failing(unittest.TestCase):
+    def test_two_that_fail_at_once(self):
+        module = build()
+        with tempfile.TemporaryDirectory() as folder, contextlib.redirect_stderr(io.StringIO()) as said, \
+                mock.patch.object(sys, "argv", ["build", folder, "program"]), \
+                mock.patch.object(module.Build, "begin", begin), \
+                mock.patch.object(module.Build, "__init__", lambda *_: None):
+            work = module.Build()
+            work.names, work.programs, work.proved, work.running = list(COMMANDS), [], [], {}
+            work.crates = SimpleNamespace(named={name: [] for name in COMMANDS})
+            work.length, work.processors = dict.fromkeys(COMMANDS, 1), 3
+            work.rooms, work.log, work.start = Path(folder), Path(folder, "log"), time.monotonic()
+            work.begin_ready()
+            time.sleep(0.5)
+            long = work.running["long"]
+            self.addCleanup(long.kill)
+            self.assertFalse(work.all_proved())
+        self.assertEqual(said.getvalue(), "program: one is not proved\n")
+        self.assertEqual(long.poll(), -15)
+
+    def test_without_the_toolchain(self):
+        module = build()
+        with tempfile.TemporaryDirectory() as folder, contextlib.redirect_stderr(io.StringIO()) as said, \
+                mock.patch.object(sys, "argv", ["build", folder, "sftpv3"]), \
+                mock.patch.dict(os.environ, {"PATH": "/nowhere"}):
+            self.assertEqual(module.main([folder, "sftpv3"]), 3)
+        self.assertEqual(said.getvalue(), "sftpv3: there is no rt in the PATH: the Rattle toolchain, which has it, "
+                                          "proves and builds the program\n")
 
 
 if __name__ == "__main__":

@@ -257,6 +257,25 @@ def try_live(steps, where):
                 any("the session is cut" in it for it in said(4)), ran.stdout)
 
 
+def try_forced(steps, where, nightly):
+    """SFTP alone, by the words behind `Subsystem sftp` as a ForceCommand: the session is recorded, and nothing else is
+    run."""
+    before = CONFIG.read_text()
+    words = re.search(r"(?m)^Subsystem\s+sftp\s+(.*)$", before)[1]
+    CONFIG.write_text(f"{before}Match User {where.user}\n    ForceCommand {words}\n")
+    run(["service", "ssh", "reload"])
+    time.sleep(0.5)
+    ran = where.batch(f"put {where.large} forced", "get forced back")
+    if steps.check("ForceCommand: a session does its work", ran.returncode == 0, ran.stdout):
+        status, said = nightly()
+        steps.check("ForceCommand: it is recorded and accepted", status == 0 and is_accepted(said, 1), said)
+    run(["ssh", *OPTIONS, f"{where.user}@127.0.0.1", f"touch {where.seen}/by-shell"], stdin=subprocess.DEVNULL)
+    steps.check("ForceCommand: no other command is run", not (where.real / "by-shell").exists())
+    CONFIG.write_text(before)
+    run(["service", "ssh", "reload"])
+    time.sleep(0.5)
+
+
 LIMITS = "!grep -e 'address space' -e 'core file' /proc/$(pgrep -x sftpv3)/limits\n"
 
 
