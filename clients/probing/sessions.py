@@ -26,6 +26,11 @@ UNWANTED, REPLIES = 100, 1 << 26
 CRASHES = {signal.SIGSEGV, signal.SIGABRT, signal.SIGBUS, signal.SIGFPE, signal.SIGILL, signal.SIGSYS, signal.SIGTRAP}
 
 
+def is_crash(status):
+    """Whether a process with this exit status was ended by such a signal. `None` is one that had to be stopped."""
+    return status is not None and -status in CRASHES
+
+
 @dataclass
 class Session:
     """What happened. Without an `end` each request has its reply."""
@@ -68,7 +73,7 @@ class Session:
 
     def crashed(self):
         """Whether a signal that says that a program is wrong ended the server after all was answered."""
-        return self.end is None and self.status is not None and -self.status in CRASHES
+        return self.end is None and is_crash(self.status)
 
     def asked(self):
         """How many requests were asked."""

@@ -6,6 +6,7 @@ between it and the client has the fault.
 KIND is the name of a class below, whose text says what goes wrong. Requests are passed on one at a time.
 """
 import os
+import signal
 import sys
 import time
 
@@ -302,6 +303,29 @@ class last_half(Healthy):
 
     def end(self):
         return status(7, sftp3.OK)[:9]
+
+
+class crashes_at_end(Healthy):
+    """The server crashes when the input has ended, and each request has its reply."""
+
+    def end(self):
+        os.kill(os.getpid(), signal.SIGSEGV)
+        return b""
+
+
+class fails_at_end(Healthy):
+    """The server ends with status 7 when the input has ended."""
+
+    def end(self):
+        sys.exit(7)
+
+
+class stays_at_end(Healthy):
+    """The server goes on when the input has ended."""
+
+    def end(self):
+        time.sleep(600)
+        return b""
 
 
 class handle_again(Healthy):

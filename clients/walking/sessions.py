@@ -53,6 +53,8 @@ class Session:
         self.asked = self.unwanted = self.denied = self.tasks = self.passed = 0
         self.most = most
         self.ended = False
+        # how the server ended, once it was let end: None if it had to be stopped
+        self.status = None
         self.timeout, self.patience, self.heard = timeout, timeout * OPENING, time.monotonic()
         record.begin(sftp3.OPENING)
 
@@ -184,7 +186,7 @@ class Session:
     def close(self):
         """Lets the server end, and gives the last lines that it wrote to standard error."""
         self.streams.selector.close()
-        self.running.part(servers.PARTING, self.streams.receive)
+        self.status = self.running.part(servers.PARTING, self.streams.receive)
         return bytes(self.running.said).decode(errors="replace").splitlines()[-5:]
 
     def take_last(self):
