@@ -259,12 +259,7 @@ pub(crate) fn put_clash<E: Write>(
 
 /// Writes both records of a contradiction, and what they say. Returns the number of the first record that it wrote;
 /// `None` if memory ran out.
-fn put_both<E: Write>(
-    alloc: Global,
-    session: &[u8],
-    clash: &Clash,
-    errors: &mut E,
-) -> Option<u64> {
+fn put_both<E: Write>(alloc: Global, session: &[u8], clash: &Clash, errors: &mut E) -> Option<u64> {
     let told = put_told(alloc, session, clash, errors)?;
     let found = put_found(alloc, session, clash, errors)?;
     Some(told.min(found))
