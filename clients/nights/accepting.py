@@ -13,8 +13,10 @@ NEXT, WHICH = "tree.next", "record.which"
 
 
 def named(record: Record) -> List:
-    """What a record is known by. The system gives the number of a file that is gone to another one."""
-    return [record.name, *record.identity]
+    """What a record is known by, behind a restart, too: file systems may get other numbers by it. The system gives the
+    number of a file that is gone to another one."""
+    _, inode = record.identity
+    return [record.name, inode]
 
 
 def accept(copy: Copy, after: str, tree: str) -> None:
