@@ -95,7 +95,6 @@ class Night:
         except BlockingIOError:
             raise Failed(f"another run for {given.user} has not ended") from None
         accepting.finish(self.spool, self.tree)
-        accepting.tidy()
         self.tidy()
 
     def tidy(self):
@@ -167,10 +166,8 @@ class Night:
             self.put_aside_now(copy, kind, verdict)
 
     def put_aside_now(self, copy, kind, verdict):
-        """Keeps a record that is not accepted, with its verdict. What comes behind it has no tree to start from."""
-        with suppress(FileNotFoundError):
-            os.remove(self.tree)
-        place = copy.keep(kind)
+        """Keeps a record that is not accepted, with its verdict."""
+        place = accepting.put_aside(copy, kind, self.tree)
         try:
             if verdict:
                 with open(f"{place}.verdict", "w", encoding="utf-8") as file:

@@ -108,11 +108,13 @@ class Record:
         return False
 
     def remove(self):
-        """Removes it from its folder, unless something else has its name by now."""
+        """Removes it from its folder, unless something else has its name by now; a power failure does not bring it
+        back."""
         with suppress(FileNotFoundError, mounted.OfAnother):
             found = mounted.state_at(self.name, self.folder)
             if identity_of(found) == self.identity:
                 os.unlink(self.name, dir_fd=self.folder)
+                os.fsync(self.folder)
 
     def close(self):
         if self.file is not None:
