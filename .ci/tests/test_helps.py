@@ -73,6 +73,18 @@ sys.path.insert(0, ".ci")
 runpy.run_path(".ci/pages", run_name="__main__")
 """
 
+# What each of these cannot do, and its status then.
+FAILING = {
+    "nightly": (3, ["--records", "ROOM/nowhere", "--state", "ROOM/state", "root", "ROOM"]),
+    "page": (2, ["examples/letters.tree", "-o", "ROOM/page.html"]),
+    "probe": (3, ["--keep", "ROOM/kept", "--", "ROOM/nowhere", "{tree}"]),
+    "record": (127, ["ROOM/t", "ROOM/nowhere"]),
+    "recordd": (3, ["--socket", "ROOM/socket", "ROOM/nowhere"]),
+    "serve": (127, ["--program", "ROOM/nowhere", "--tree", "ROOM/nowhere"]),
+    "tree": (3, ["--out", "ROOM/tree", "ROOM/nowhere"]),
+    "walk": (3, ["--session", "ROOM/s", "--", "ROOM/nowhere"]),
+}
+
 # What each of these does soon.
 ENDING = {
     "nightly": ["--records", "ROOM", "--state", "ROOM/state", "root", "ROOM"],
@@ -173,6 +185,16 @@ class Helps(unittest.TestCase):
             ran = subprocess.run([sys.executable, "-B", "-c", code], cwd=TOP, stdin=subprocess.DEVNULL, timeout=LONG,
                                  stdout=subprocess.DEVNULL, stderr=subprocess.PIPE)
             self.assertEqual((ran.returncode in (-signal.SIGINT, 128 + signal.SIGINT), ran.stderr), (True, b""), code)
+
+    def test_the_status_is_the_same_where_standard_error_is_full(self):
+        found = {}
+        for name, (wanted, words) in FAILING.items():
+            with tempfile.TemporaryDirectory() as room, open("/dev/full", "wb") as full:
+                ran = subprocess.run([TOP / "clients" / name, *(it.replace("ROOM", room) for it in words)], cwd=TOP,
+                                     env={**os.environ, "SFTPV3": "/bin/false"}, stdin=subprocess.DEVNULL,
+                                     stdout=subprocess.DEVNULL, stderr=full, timeout=LONG)
+            found[name] = ran.returncode, wanted
+        self.assertEqual({it: pair for it, pair in found.items() if pair[0] != pair[1]}, {})
 
     def test_a_signal_at_the_end_does_no_harm(self):
         told = {it: struck_at_end(TOP / "clients" / it) for it in ENDING}

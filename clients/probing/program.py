@@ -2,6 +2,7 @@
 import os
 import subprocess
 import sys
+from contextlib import suppress
 
 from paging import packets
 
@@ -48,9 +49,15 @@ def say(text, stream=None):
     print(packets.line(str(text)), file=stream or sys.stdout, flush=True)
 
 
+def tell(text):
+    """Says a line to standard error, unless nobody can be told."""
+    with suppress(OSError):
+        say(text, sys.stderr)
+
+
 def complain(name, why, status):
     """Says in a line why a command of clients/ ends, and gives the status."""
-    say(f"{os.path.basename(called(name))}: {why}", sys.stderr)
+    tell(f"{os.path.basename(called(name))}: {why}")
     return status
 
 
