@@ -51,7 +51,7 @@ def put_aside(copy: Copy, kind: str, tree: str) -> str:
 
 
 def keep(copy: Copy, kind: str, tree: str) -> str:
-    """Gives the copy its name. If that fails, nothing has happened; what fails behind it is finished by the next run."""
+    """Gives the copy its name. If that fails, nothing has happened; what fails behind it, the next run finishes."""
     try:
         return copy.keep(kind)
     except BaseException:
