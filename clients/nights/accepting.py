@@ -39,6 +39,13 @@ def accept(copy: Copy, after: str, tree: str) -> None:
     os.remove(WHICH)
 
 
+def pass_over(copy: Copy, tree: str) -> None:
+    """Keeps a record in which nothing was asked: the next starts from the same tree."""
+    note(copy.record)
+    keep(copy, "accepted", tree)
+    tidy()
+
+
 def put_aside(copy: Copy, kind: str, tree: str) -> str:
     """Keeps a record that is not accepted: what comes behind it has no tree to start from. Returns the name."""
     note(copy.record)

@@ -13,7 +13,7 @@ from contextlib import suppress
 from typing import List, Optional, Sequence
 
 from nights import accepting
-from nights.records import NEW, Copy, Failed, NotTaken, Numbers, Spool
+from nights.records import NEW, Copy, Failed, NotTaken, Numbers, Spool, end_of_silence
 from paging import packets
 from probing import program
 from recording import ending, ways
@@ -126,6 +126,10 @@ class Night:
     def audit(self, copy, name, note):
         """Audits a session, and makes its last tree the one of the next. What comes of it is said before the record is
         taken from the spool, so nothing hides it."""
+        silence = end_of_silence(copy.file)
+        if silence:
+            self.pass_over(copy, f"{name}: nothing was asked: the record ends before {silence}", note)
+            return
         after = f"{self.tree}.after"
         try:
             found = self.run_program(MOST_REASONS, "audit", *self.options, "--explain", "--tree", self.tree,
@@ -154,6 +158,14 @@ class Night:
         self.say(f"{name}: {first}{note}", 1)
         self.say_lines(more)
         self.put_aside(copy, "refused", [first, *more])
+
+    def pass_over(self, copy, what, note):
+        """Accepts a record in which nothing was asked."""
+        went = ": its client or the server went first" if "VERSION" in what else ""
+        self.say(f"{what}{went}{note}")
+        with ending.put_off():
+            accepting.pass_over(copy, self.tree)
+        self.accepted += 1
 
     def give_up(self, copy, name, why):
         """Says that a record cannot be judged, and puts it aside."""

@@ -15,6 +15,7 @@ from contextlib import suppress
 
 from paging import packets
 from recording import mounted, naming, ways
+from recording.packets import OPENING
 
 RECORD = re.compile(r".*\.transcript(\.[0-9a-f]+)?", re.DOTALL)
 # The names that recorders give: none of them reads like a part of a line.
@@ -238,6 +239,8 @@ class Spool:
 NEW = "record.new"
 # The longest name under which a record is kept. A verdict has eight characters more, and a number may come behind both.
 LONGEST_NAME = 200
+# How many bytes precede a packet's fields: its side, its length and its type; and the type of INIT.
+FRONT, INIT = 6, b"\x01"
 # For how many names it is held how often they were taken.
 MOST_NUMBERS = 1000
 PIECE = 1 << 20
@@ -301,6 +304,19 @@ class Numbers:
         if number > 1:
             self.last[place] = number
         return found
+
+
+def end_of_silence(file):
+    """Before what a record ends in which nothing was asked, and which no audit takes: INIT, or the server's VERSION.
+    None if it goes on, or is cut within INIT."""
+    head = os.pread(file, len(OPENING) + FRONT, 0)
+    if head == OPENING:
+        return "INIT"
+    front = head.removeprefix(OPENING)
+    if len(front) != FRONT or front[:1] != b"C" or front[-1:] != INIT:
+        return None
+    ends = os.fstat(file).st_size == len(head) - 1 + int.from_bytes(front[1:-1], "big")
+    return "the server's VERSION" if ends else None
 
 
 class Copy:
