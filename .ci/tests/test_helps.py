@@ -58,6 +58,35 @@ sys.argv[0] = {script!r}
 runpy.run_path({script!r}, run_name="__main__")
 """
 
+# Runs a script that gets SIGTERM when it has done its work, just before it holds signals off.
+ENDS_WORK = """
+import os, runpy, signal, sys
+sys.path.insert(0, "clients")
+from recording import ending
+hold_off = ending.hold_off
+def strike():
+    ending.hold_off = hold_off
+    os.kill(os.getpid(), signal.SIGTERM)
+    for _ in range(1000):
+        pass
+    hold_off()
+ending.hold_off = strike
+sys.argv[0] = {script!r}
+runpy.run_path({script!r}, run_name="__main__")
+"""
+
+# Runs a script in which something happens that it does not foresee.
+FAILS = """
+import runpy, sys
+sys.path.insert(0, "clients")
+from recording import ending
+def fail():
+    raise ValueError("unforeseen")
+ending.end_in_order = fail
+sys.argv[0] = {script!r}
+runpy.run_path({script!r}, run_name="__main__")
+"""
+
 # A test script, and `.ci/pages`, that a user interrupts.
 QUIET = """
 import sys
@@ -117,17 +146,38 @@ def struck(script: Path, number: int) -> tuple[int, str]:
     return ran.returncode, ran.stderr.decode()
 
 
-def struck_at_end(script: Path) -> str:
-    """Returns what is wrong with a script to which SIGTERM comes when it has done its work."""
-    code = ENDS.format(script=str(script))
+def run_by(code: str, script: Path) -> tuple[int, str]:
+    """The status of a script that this code runs, and what it says to standard error."""
     with tempfile.TemporaryDirectory() as room:
         words = [it.replace("ROOM", room) for it in ENDING[script.name]]
-        ran = subprocess.run([sys.executable, "-B", "-c", code, *words], stdin=subprocess.DEVNULL,
-                             stdout=subprocess.DEVNULL, stderr=subprocess.PIPE, timeout=LONG, cwd=TOP,
-                             env={**os.environ, "SFTPV3": "/bin/false"})
-    said = ran.stderr.decode()
-    is_right = ran.returncode in (0, 3, 128 + signal.SIGTERM) and "Traceback" not in said
-    return "" if is_right else f"status {ran.returncode}, {said[-300:]!r}"
+        ran = subprocess.run([sys.executable, "-B", "-c", code.format(script=str(script)), *words],
+                             stdin=subprocess.DEVNULL, stdout=subprocess.DEVNULL, stderr=subprocess.PIPE, timeout=LONG,
+                             cwd=TOP, env={**os.environ, "SFTPV3": "/bin/false"})
+    return ran.returncode, ran.stderr.decode()
+
+
+def struck_at_end(script: Path) -> str:
+    """Returns what is wrong with a script to which SIGTERM comes when it has done its work."""
+    for code in (ENDS, ENDS_WORK):
+        status, said = run_by(code, script)
+        if status not in (0, 3, 128 + signal.SIGTERM) or "Traceback" in said:
+            return f"status {status}, {said[-300:]!r}"
+    return ""
+
+
+def failed(script: Path) -> str:
+    """Returns what is wrong with a script in which something happens that it does not foresee: that is no verdict."""
+    status, said = run_by(FAILS, script)
+    return "" if status == 3 and "ValueError: unforeseen\n" in said else f"status {status}, {said[-300:]!r}"
+
+
+def wrong_to_full(script: Path) -> str:
+    """Returns what is wrong with the status of a script that got wrong words, and whose standard error is a full
+    disk."""
+    with open("/dev/full", "wb") as full:
+        ran = subprocess.run([script, "--wrong"], stdin=subprocess.DEVNULL, stdout=subprocess.PIPE, stderr=full,
+                             env={**os.environ, "SFTPV3": "/bin/false"}, timeout=LONG)
+    return "" if ran.returncode == 2 else f"status {ran.returncode}, {ran.stdout[-200:]!r}"
 
 
 def interrupted(script: Path) -> str:
@@ -198,6 +248,14 @@ class Helps(unittest.TestCase):
 
     def test_a_signal_at_the_end_does_no_harm(self):
         told = {it: struck_at_end(TOP / "clients" / it) for it in ENDING}
+        self.assertEqual({it: why for it, why in told.items() if why}, {})
+
+    def test_what_no_script_foresees_is_no_verdict(self):
+        told = {it: failed(TOP / "clients" / it) for it in ENDING}
+        self.assertEqual({it: why for it, why in told.items() if why}, {})
+
+    def test_wrong_usage_has_its_status_where_standard_error_is_full(self):
+        told = {it: wrong_to_full(TOP / "clients" / it) for it in COMMANDS}
         self.assertEqual({it: why for it, why in told.items() if why}, {})
 
 

@@ -19,6 +19,9 @@ ACCEPTED, DIFFERENCES, BAD_USAGE, NOT_STARTED, NOT_FINISHED = range(5)
 # tenth seed as many as OpenSSH's sftp.
 ONE, MANY, MOST = 1, 16, 64
 
+# The most servers side by side: each has a folder and a thread of its own from the start.
+MOST_JOBS = 1000
+
 class Wrong(Exception):
     """A file or folder of the command line cannot be used."""
 
@@ -72,6 +75,13 @@ def seconds(text):
 def pause(text):
     """Seconds, also none."""
     return 0 if text == "0" else seconds(text)
+
+
+def side_by_side(text):
+    number = positive(text)
+    if number > MOST_JOBS:
+        raise argparse.ArgumentTypeError(f"at most {MOST_JOBS:,} servers may run side by side")
+    return number
 
 
 def flying(text):
@@ -153,7 +163,7 @@ def add_of_plans(add):
 
 def add_of_run(add):
     add("--reset", metavar="COMMAND", help="a shell command to run before each session")
-    add("--jobs", metavar="N", type=positive,
+    add("--jobs", metavar="N", type=side_by_side,
         help="servers side by side (as many as processors; 1 with --reset, or if the command has no {tree})")
     add("--timeout", metavar="S", type=seconds, default=sessions.TIMEOUT,
         help=f"seconds to wait for a reply ({sessions.TIMEOUT}), and {sessions.OPENING} times as long for VERSION")
@@ -162,7 +172,7 @@ def add_of_run(add):
         help=f"seconds for all shrinking ({shrinking.BUDGET}); 0: none is shrunk")
     add("--first", action="store_true", help="play no more seeds once there is a difference")
     add("--keep", metavar="FOLDER", default="probe-kept", help="where to keep shrunk sessions (probe-kept)")
-    add("--report", metavar="FILE", 
+    add("--report", metavar="FILE",
         help="write a report: a page if the name ends in .html, JUnit if in .xml, else JSON lines")
 
 

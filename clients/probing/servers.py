@@ -171,6 +171,9 @@ def ending(status):
         return f"by signal {-status}"
 
 
+# The most seconds that the system is asked to wait at a time: it takes no number of them.
+AT_ONCE = 3600
+
 # The most bytes of a packet that are taken in; docs/PROTOCOL.md allows fewer.
 LARGEST = 1 << 20
 
@@ -219,7 +222,7 @@ class Streams:
         blocked = bool(self.leaving)
         if blocked:
             self.selector.register(self.running.process.stdin, selectors.EVENT_WRITE)
-        ready = [key.fileobj for key, _ in self.selector.select(max(0, seconds))]
+        ready = [key.fileobj for key, _ in self.selector.select(max(0, min(seconds, AT_ONCE)))]
         if blocked:
             self.selector.unregister(self.running.process.stdin)
         if self.running.process.stderr in ready and not self.running.listen():

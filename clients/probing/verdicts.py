@@ -72,7 +72,8 @@ def run(words, stop, space=None):
                     return subprocess.CompletedProcess(words, running.returncode, said, why)
             raise Stopped()
         except BaseException:
-            os.killpg(running.pid, signal.SIGKILL)
+            with suppress(ProcessLookupError):
+                os.killpg(running.pid, signal.SIGKILL)
             raise
 
 

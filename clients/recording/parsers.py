@@ -2,11 +2,12 @@
 complaints of all scripts about theirs."""
 import argparse
 import os
+import sys
 from contextlib import suppress
 
 from recording.notices import printable
 from recording.options import AUDIT_FLAGS, AUDIT_MEMORY, AUDIT_VALUES, GRACE, NAME
-from recording.standard import print_or_end
+from recording.standard import left_unsaid, print_or_end
 
 
 class Parser(argparse.ArgumentParser):
@@ -17,8 +18,11 @@ class Parser(argparse.ArgumentParser):
         print_or_end(self.format_help(), os.path.basename(self.prog))
 
     def error(self, message):
-        with suppress(OSError):
-            super().error(printable(message))
+        try:
+            with suppress(OSError):
+                super().error(printable(message))
+        finally:
+            left_unsaid(sys.stderr)
         self.exit(2)
 
 

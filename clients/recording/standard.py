@@ -43,16 +43,30 @@ def open_nothing():
 
 def end(main, tell, failed: int = 3) -> int:
     """Calls the main function of a script, and gives the status that it gives or ends with. Where standard output did
-    not take what was printed, `tell` gets why, and the status is `failed`."""
+    not take what was printed, `tell` gets why, and the status is `failed`; so it is where something happens that the
+    script does not foresee, which is shown."""
     try:
         status = main()
     except SystemExit as ended:
         status = ended.code
+    except Exception:  # noqa: BLE001 (whatever it is, it is no verdict)
+        show_mistake(tell)
+        status = failed
     why = left_unsaid(sys.stdout)
     if why:
         tell(f"standard output: {why}")
     left_unsaid(sys.stderr)
     return failed if why else status
+
+
+def show_mistake(tell):
+    """Shows the error that is being handled, for a report, unless nobody can be told."""
+    import traceback
+    try:
+        traceback.print_exc()
+    except OSError:
+        pass
+    tell("this is a mistake in the program itself: please report it")
 
 
 def print_or_end(text: str, name: str) -> None:

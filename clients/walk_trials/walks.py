@@ -1,6 +1,7 @@
 """Walks through servers that mean harm, and through right ones."""
 import os
 import resource
+import shlex
 import shutil
 import signal
 import subprocess
@@ -267,6 +268,43 @@ def try_signals(steps, folder):
                 f"{status}: {said}")
 
 
+# A walk that gets SIGTERM when `infer` has ended.
+LATE = """
+import os, runpy, signal, subprocess, sys
+sys.path.insert(0, {clients!r})
+class Done(subprocess.CompletedProcess):
+    def __init__(self, words, *others):
+        super().__init__(words, *others)
+        if "help" not in words:
+            os.kill(os.getpid(), signal.SIGTERM)
+            for _ in range(1000):
+                pass
+subprocess.CompletedProcess = Done
+sys.argv[0] = {walk!r}
+runpy.run_path({walk!r}, run_name="__main__")
+"""
+
+
+def try_late_signal(steps, folder):
+    """A signal that comes behind the end of `infer` ends the walk in order, and what is told of the tree is true."""
+    late = os.path.join(folder, "late.tree")
+    code = LATE.format(clients=os.path.join(TOP, "clients"), walk=WALK)
+    status, said = run([sys.executable, "-c", code, "--to", late, "--", *HOSTILE, "Right"], folder)
+    steps.check("SIGTERM behind the end of infer: status 143, and that the tree is written", status == 143 and
+                os.path.exists(late) and said == "walk: SIGTERM came; the tree is written\n", f"{status}: {said}")
+
+
+def try_left_processes(steps, folder):
+    """What a server started in its session ends with the walk, also where the server has ended before."""
+    mark = os.path.join(folder, "left-mark")
+    code = f"sleep 600 >/dev/null 2>&1 & exec {shlex.join([*HOSTILE, 'Right'])}"
+    status, said = run([WALK, "--to", "left.tree", "--", "sh", "-c", code], folder, env={**os.environ, "MARK": mark})
+    left = processes_of(mark)
+    for it in left:
+        os.kill(it, signal.SIGKILL)
+    steps.check("what a server leaves running ends with the walk", status == 0 and not left, f"{status} {left}: {said}")
+
+
 def try_memory(steps, folder):
     """`infer` gets no more memory than --memory says."""
     greedy = {"env": {**os.environ, "SFTPV3": executable(os.path.join(folder, "greedy"), GREEDY)}}
@@ -355,6 +393,7 @@ def try_entries(steps, folder):
 def try_usage(steps, folder):
     for options, command, wanted in (
             (["--max-bytes", "x"], ["true"], 2), (["--timeout", "0"], ["true"], 2),
+            (["--memory", str(1 << 63)], [*HOSTILE, "Right"], 2), (["--timeout", "200000"], [*HOSTILE, "Right"], 0),
             (["--max-entries", "0"], ["true"], 2), (["--max-entries", "4294967294"], ["true"], 2),
             (["--in-flight", "5000"], ["true"], 2), (["--to", "/nowhere/x"], [*HOSTILE, "Right"], 3),
             (["--session", "/nowhere/x"], ["true"], 3),

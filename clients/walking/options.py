@@ -21,10 +21,21 @@ IN_FLIGHT = 64
 PROFILE, STRICT, OF_USERS = "posix", "strict", "posix-user"
 
 
+# No process is given as much memory, and the system takes no bound of more than eight times as much.
+MOST_MEMORY = 1 << 60
+
+
 def count(text):
     if not (text.isascii() and text.isdigit()):
         raise argparse.ArgumentTypeError(f"{text!r} is no number")
     return int(text)
+
+
+def memory(text):
+    found = count(text)
+    if found >= MOST_MEMORY:
+        raise argparse.ArgumentTypeError(f"{text} is more memory than a process can have")
+    return found
 
 
 def entries(text):
@@ -55,8 +66,8 @@ def parser(about):
     add("--max-entries", metavar="N", type=entries, default=bounds.ENTRIES,
         help=f"the most entries to look at; with more, the walk ends ({bounds.ENTRIES})")
     add("--session", metavar="FILE", help="keep the transcript of the session, which is made anew")
-    add("--memory", metavar="BYTES", type=count, default=looking.MEMORY,
-        help=f"the most memory of `sftpv3 infer`, which takes three times that of the record ({looking.MEMORY})")
+    add("--memory", metavar="BYTES", type=memory, default=looking.MEMORY,
+        help=f"the most memory of `sftpv3 infer`, which takes twice the bytes of the record ({looking.MEMORY})")
     add("--in-flight", metavar="N", type=flying, default=IN_FLIGHT,
         help=f"the most requests without a reply ({IN_FLIGHT})")
     add("--timeout", metavar="S", type=seconds, default=sessions.TIMEOUT,
