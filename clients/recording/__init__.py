@@ -3,6 +3,8 @@
 standard  the three standard descriptors; keeps other processes of the user out
 packets   a stream of bytes as packets, one direction of a session; VERSION without extensions
 notices   lines to standard error, to a log, to syslog
+mounted   what another user mounted on the way to a file
+temporary the folder for temporary files
 ways      the way to a file by open folders, past links of others; whether others could replace it, and whether two
           names lead to one file
 replacing files that are replaced whole

@@ -65,7 +65,7 @@ WAITS = ("other_id", "stops_in_reply", "trickles")
 
 # What stands for `sftpv3`: its `infer` hangs while it writes the tree, or finds no room for it.
 WRITING = """#!/bin/sh
-[ "$*" = "help infer" ] && exit
+case "$*" in "help infer" | *begun.tree) exit;; esac
 for place; do :; done
 echo part >"$place.new-0123456789abcdef"
 echo $$ >"$MARK"

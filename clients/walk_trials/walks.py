@@ -32,7 +32,9 @@ PROMPT = 60
 # A program `sftpv3` whose `infer` hangs, in which another process is started first, or needs more memory than it gets,
 # or says of which files that is so.
 HANGING = """#!/bin/sh
-[ "$*" = "help infer" ] || { echo $$ >"$MARK"; sleep 600; }
+case "$*" in "help infer" | *begun.tree) exit;; esac
+echo $$ >"$MARK"
+sleep 600
 """
 GREEDY = """#!/bin/sh
 [ "$*" = "help infer" ] && exit
@@ -275,7 +277,7 @@ sys.path.insert(0, {clients!r})
 class Done(subprocess.CompletedProcess):
     def __init__(self, words, *others):
         super().__init__(words, *others)
-        if "help" not in words:
+        if words[-1] == sys.argv[2]:
             os.kill(os.getpid(), signal.SIGTERM)
             for _ in range(1000):
                 pass
@@ -358,6 +360,7 @@ def try_mistakes(steps, folder):
     for options, command, wanted in (
             (["--to", "x"], ["nowhere"], "cannot run nowhere: No such file or directory"),
             (["--to", "x"], [folder], f"cannot run {folder}: Permission denied"),
+            (["--to", folder], ["touch", "started"], f"cannot write {folder}: not a regular file"),
             (["--to", "nodir/x"], ["touch", "started"], "cannot write nodir/x: there is no folder nodir")):
         status, said = walk(folder, options, command)
         steps.check(wanted, status == 3 and said == f"walk: {wanted}\n", f"{status}: {said}")
@@ -394,6 +397,7 @@ def try_usage(steps, folder):
     for options, command, wanted in (
             (["--max-bytes", "x"], ["true"], 2), (["--timeout", "0"], ["true"], 2),
             (["--memory", str(1 << 63)], [*HOSTILE, "Right"], 2), (["--timeout", "200000"], [*HOSTILE, "Right"], 0),
+            (["--profile", "strickt"], ["true"], 2), (["--umask", "9"], ["true"], 2), (["--to", ""], ["true"], 2),
             (["--max-entries", "0"], ["true"], 2), (["--max-entries", "4294967294"], ["true"], 2),
             (["--in-flight", "5000"], ["true"], 2), (["--to", "/nowhere/x"], [*HOSTILE, "Right"], 3),
             (["--session", "/nowhere/x"], ["true"], 3),

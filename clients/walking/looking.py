@@ -1,5 +1,6 @@
 """What a walk asks: where things are, what a directory has, what a link and a file hold. It follows no link.
 `sftpv3 infer` makes the tree of what was seen."""
+import os
 import subprocess
 from collections import deque
 
@@ -244,6 +245,16 @@ def can_infer(program):
     """Whether the program has the subcommand: older ones have not."""
     return subprocess.run([program, "help", "infer"], stdin=subprocess.DEVNULL, capture_output=True,
                           check=False).returncode == 0
+
+
+def why_wrong(program, words, folder):
+    """What the program says of options that it does not take, or None: it is asked of a session that has just begun."""
+    begun = os.path.join(folder, "begun.transcript")
+    with open(begun, "wb") as file:
+        file.write(sftp3.put_records([(b"C", sftp3.init()), (b"S", sftp3.version(3, []))]))
+    done = verdicts.run([program, "infer", *words, "--transcript", begun, os.path.join(folder, "begun.tree")], None)
+    lines = done.stderr.decode(errors="replace").splitlines() or ["the program does not take its options"]
+    return lines[0].removeprefix("error: ") if done.returncode == 2 else None
 
 
 def infer(program, transcript, tree, words=(), memory=MEMORY, stop=None):

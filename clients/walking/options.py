@@ -87,6 +87,8 @@ def options(about):
     given = found.parse_args()
     if given.to is None and given.session is None and sys.stdout.isatty():
         found.error("--to or --session is needed, or a standard output that is no terminal")
+    if given.to == "":
+        found.error("--to names no file")
     if given.to is not None and given.session is not None and is_one_file(given.to, given.session):
         found.error("--to and --session name one file")
     given.below = given.below or [b"."]

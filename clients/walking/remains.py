@@ -20,7 +20,8 @@ def unfinished(place: str) -> Set[str]:
 
 @contextmanager
 def removed(place: str) -> Iterator[None]:
-    """If the block is left by an exception, those that came in it are removed: nobody writes them any more."""
+    """If the block is left by an exception, those that came in it are removed: nobody writes them any more, unless
+    another program writes the same tree file at the same time, which then fails."""
     before = unfinished(place)
     try:
         yield
