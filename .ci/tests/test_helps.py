@@ -96,6 +96,8 @@ raise KeyboardInterrupt
 """
 PAGES = """
 import os, runpy, signal, subprocess, sys
+# a shell has what it starts in the background ignore SIGINT
+signal.signal(signal.SIGINT, signal.default_int_handler)
 subprocess.run = lambda *_, **__: os.kill(os.getpid(), signal.SIGINT)
 sys.argv = [".ci/pages"]
 sys.path.insert(0, ".ci")
