@@ -4,7 +4,8 @@ ghost use Rattle.std.specs.IoError.{error_kind};
 ghost use Rattle.std.specs.declared.io.ErrorKind.TheVariants as kinds;
 ghost use Rattle.sftp_files.specs.declared.messages.Failure.TheVariants as failures;
 ghost use Rattle.sftp_files.specs.Failures.{tree_failure, IsTranscriptFailure, IsUsage};
-ghost use Rattle.sftp_files.specs.Failures.{IsUnreadFile, IsUnwritten, IsUnwrittenFile, IsUnreplacedFile, IsUncopiedFile};
+ghost use Rattle.sftp_files.specs.Failures.{IsUnreadFile, IsUnwritten, IsUnwrittenFile};
+ghost use Rattle.sftp_files.specs.Failures.{IsUnreplacedFile, IsUncopiedFile};
 
 use crate::names::Named;
 use sftp_path::NoMemory;
