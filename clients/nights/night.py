@@ -128,7 +128,7 @@ class Night:
         taken from the spool, so nothing hides it."""
         silence = end_of_silence(copy.file)
         if silence:
-            self.pass_over(copy, f"{name}: nothing was asked: the record ends before {silence}", note)
+            self.pass_over(copy, f"{name}: nothing was asked: the record ends {silence}{note}")
             return
         after = f"{self.tree}.after"
         try:
@@ -159,10 +159,9 @@ class Night:
         self.say_lines(more)
         self.put_aside(copy, "refused", [first, *more])
 
-    def pass_over(self, copy, what, note):
+    def pass_over(self, copy, what):
         """Accepts a record in which nothing was asked."""
-        went = ": its client or the server went first" if "VERSION" in what else ""
-        self.say(f"{what}{went}{note}")
+        self.say(what)
         with ending.put_off():
             accepting.pass_over(copy, self.tree)
         self.accepted += 1

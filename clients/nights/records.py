@@ -307,16 +307,16 @@ class Numbers:
 
 
 def end_of_silence(file):
-    """Before what a record ends in which nothing was asked, and which no audit takes: INIT, or the server's VERSION.
-    None if it goes on, or is cut within INIT."""
+    """Where a record ends in which nothing was asked, and which no audit takes: before INIT, or before VERSION. None if
+    it goes on, or is cut within INIT."""
     head = os.pread(file, len(OPENING) + FRONT, 0)
     if head == OPENING:
-        return "INIT"
+        return "before INIT"
     front = head.removeprefix(OPENING)
     if len(front) != FRONT or front[:1] != b"C" or front[-1:] != INIT:
         return None
     ends = os.fstat(file).st_size == len(head) - 1 + int.from_bytes(front[1:-1], "big")
-    return "the server's VERSION" if ends else None
+    return "before the server's VERSION: its client or the server went first" if ends else None
 
 
 class Copy:

@@ -18,7 +18,7 @@ from contextlib import suppress
 
 import sftp3
 from paging import packets
-from recording import temporary
+from recording import greetings, temporary
 
 # Seconds for a server to end after its input did, and after it left a request unanswered.
 PARTING, SILENT_PARTING = 2, 0.5
@@ -196,6 +196,11 @@ class Arrived:
     def length(self):
         return sftp3.length(bytes(self.data[self.place:self.place + 4]))
 
+    def unlike_packet(self, count):
+        """What is said of bytes that begin with so great a length of a packet."""
+        text = greetings.text_at(memoryview(self.data)[self.place:])
+        return f"its output is text, {text}" if text else f"a packet has {count} bytes"
+
     def take(self, count):
         self.place += count
         return bytes(memoryview(self.data)[self.place - count:self.place])
@@ -253,7 +258,7 @@ class Streams:
     def next_packet(self):
         count = self.arrived.length()
         if count is not None and count > LARGEST:
-            self.wrong = self.wrong or f"a packet has {count} bytes"
+            self.wrong = self.wrong or self.arrived.unlike_packet(count)
         return self.arrived.take(count) if count is not None and count <= min(LARGEST, len(self.arrived)) else None
 
     def rest(self):

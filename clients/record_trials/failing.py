@@ -102,7 +102,8 @@ def small_disk(steps, room, asked, size):
 
 
 def long_packets(steps, room):
-    for name, head in (("ffffffff", b"\xff\xff\xff\xff"), ("garbage", b"Welcome, user\n" * 1000)):
+    for name, head, why in (("ffffffff", b"\xff\xff\xff\xff", b"a packet of length 4294967295"),
+                            ("garbage", b"Welcome, user\n" * 1000, b'text in place of a packet, "Welcome, user"')):
         for side in ("client", "server"):
             before = worked()
             data = head + bytes(3_000_000)
@@ -115,6 +116,7 @@ def long_packets(steps, room):
             got = room.read("got") if side == "client" else ran.stdout
             steps.check(f"{name} of the {side}: every byte is passed on", got == data, f"{len(got)} bytes, {ran}")
             steps.check(f"{name} of the {side}: a line says that it is not recorded", b"not recorded" in ran.stderr)
+            steps.check(f"{name} of the {side}: it says why", why in ran.stderr, str(ran.stderr))
     for size in (262_140, 262_144, 262_144 + 1024):
         data = INIT + size.to_bytes(4, "big") + bytes(size)
         ran = run(room, "--overwrite", "t", "/bin/sh", "-c", "cat >got; :", data=data)

@@ -226,7 +226,24 @@ def play(session):
     return session.run()
 
 
+# How scp's older protocol tells its client of an error: this byte, and a line.
+SCP_ERROR = b"\1"
+
+
+def is_scp(environment):
+    """Whether ForceCommand put the recorder in the place of scp's older protocol, whose client would wait for ever."""
+    words = environment.get("SSH_ORIGINAL_COMMAND", "").split()
+    return bool(words) and os.path.basename(words[0]) == "scp"
+
+
+def refuse_scp():
+    os.write(1, SCP_ERROR + b"scp: only SFTP is served here: use scp without -O, or sftp\n")
+    return OWN_FAILURE
+
+
 def record_session(options):
+    if is_scp(os.environ):
+        return refuse_scp()
     signals = Signals()
     notices = open_notices(options)
     records = Records(options, notices, signals)

@@ -82,6 +82,10 @@ class Flow:
         self.packets += len(found)
         return found
 
+    def behind_packets(self):
+        """What is held behind the last whole packet."""
+        return self.buffer[self.whole:self.filled]
+
     def change_first(self):
         """Changes the first packet, once it is whole, into one that is not longer."""
         end = self.start + 4 + length_at(self.buffer, self.start)[0]

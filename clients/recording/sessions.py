@@ -11,6 +11,7 @@ import select
 import time
 
 from recording import signals
+from recording.greetings import text_at
 from recording.packets import Flow
 from recording.sinks import Failed
 
@@ -163,7 +164,9 @@ class Session:
 
     def lose_packets(self, flow):
         """A packet is too long to be held, and those behind it cannot be told apart."""
-        why = f"the {'client' if flow is self.asked else 'server'} sent a packet of length {flow.too_long}"
+        text = text_at(flow.behind_packets())
+        what = f"text in place of a packet, {text}" if text else f"a packet of length {flow.too_long}"
+        why = f"the {'client' if flow is self.asked else 'server'} sent {what}"
         if self.audit:
             self.audit.give_up(why)
         if self.record:

@@ -271,6 +271,10 @@ def try_forced(steps, where, nightly):
         steps.check("ForceCommand: it is recorded and accepted", status == 0 and is_accepted(said, 1), said)
     run(["ssh", *OPTIONS, f"{where.user}@127.0.0.1", f"touch {where.seen}/by-shell"], stdin=subprocess.DEVNULL)
     steps.check("ForceCommand: no other command is run", not (where.real / "by-shell").exists())
+    for words in ([where.large, f"{where.user}@127.0.0.1:forced"], [f"{where.user}@127.0.0.1:forced", "/dev/null"]):
+        ran = run(["timeout", "20", "scp", "-O", *OPTIONS, *words], stdin=subprocess.DEVNULL)
+        steps.check("ForceCommand: scp without SFTP is told so, and does not wait", ran.returncode not in (0, 124) and
+                    "only SFTP is served here" in ran.stdout, f"{ran.returncode}: {ran.stdout}")
     CONFIG.write_text(before)
     run(["service", "ssh", "reload"])
     time.sleep(0.5)

@@ -403,6 +403,12 @@ class long_packet(Right):
         return super().lstat(path)
 
 
+class greeting(Right):
+    def lstat(self, path):
+        os.write(1, b"\r\nWelcome\r\n")
+        return super().lstat(path)
+
+
 def answer(server, asked):
     act = getattr(server, asked.name.lower(), None)
     kind, body = act(*asked.fields) if act else status(sftp3.OP_UNSUPPORTED)

@@ -67,6 +67,7 @@ ENDED = [
     ("counts_wrong", "a reply of the server is malformed: a field goes past the end"),
     ("many_replies", "101 replies of the server are to no request"),
     ("long_packet", "the server sent no packets: a packet has 2147483651 bytes"),
+    ("greeting", 'the server sent no packets: its output is text, "Welcome"'),
 ]
 
 # Servers at which it goes on, and what it says; `infer` may find a tree or none.

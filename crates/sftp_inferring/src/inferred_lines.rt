@@ -134,6 +134,14 @@ pub(crate) fn put_spent<E: Write>(errors: &mut E) {
     );
 }
 
+/// Says that there may be a tree by a profile.
+pub(crate) fn put_strictness<E: Write>(errors: &mut E) {
+    let _ = write_flushed(
+        errors,
+        "each reply was judged strictly; '--profile posix' allows what servers with real file systems do\n",
+    );
+}
+
 /// The word for a kind.
 fn word(sort: Sort) -> &'static str {
     match sort {

@@ -5,7 +5,8 @@ ghost use Rattle.sftp_verdicts.specs.Verdicts.{IsAuditStatus};
 
 use crate::inferences::{Found, Inferred, Judging, find};
 use crate::inferred_lines::{
-    put_assumed, put_clash, put_excess, put_exchange, put_refusal, put_spent, put_way,
+    put_assumed, put_clash, put_excess, put_exchange, put_refusal, put_spent, put_strictness,
+    put_way,
 };
 use crate::inferred_objects::{print_inferred, print_untold};
 use sftp_audit::Refusal;
@@ -364,10 +365,34 @@ fn refuse<'a, R: System, O: Write, E: Write>(
         None => (0, 0),
     };
     let printed = print_none(options.is_json, told, found, output);
-    if options.explains && !options.is_json && printed.is_ok() {
-        put_clash(rt.alloc(), session, search, errors);
+    if !options.is_json && printed.is_ok() {
+        put_reasons(rt.alloc(), options, session, search, errors);
     }
     printed
+}
+
+/// Shows the records that contradict each other, if that is asked for, and says if a profile may help.
+fn put_reasons<E: Write>(
+    alloc: Global,
+    options: &InferOptions<'_>,
+    session: &[u8],
+    search: &Search<'_>,
+    errors: &mut E,
+) {
+    if options.explains {
+        put_clash(alloc, session, search, errors);
+    }
+    if options.profile.is_none() && is_unexplained(search) {
+        put_strictness(errors);
+    }
+}
+
+/// Whether the search ended at a record that nothing explains.
+fn is_unexplained(search: &Search<'_>) -> bool {
+    match search.clash() {
+        Some(clash) => clash.told == 0 && clash.found > 0,
+        None => false,
+    }
 }
 
 /// Writes the tree of the pass that came furthest, if there is one and a file is named for it.
