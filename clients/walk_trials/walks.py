@@ -48,6 +48,13 @@ echo "sftpv3: out of memory: x needs more than '--memory' allows" >&2
 exit 3
 """
 
+PATHS = """#!/bin/sh
+[ "$*" = "help infer" ] && exit
+echo "no tree: the paths that replies tell of have 9 bytes in all" >&2
+echo "sftpv3: out of memory" >&2
+exit 3
+"""
+
 # Servers of hostile.py at which the walk ends, and what it says.
 ENDED = [
     ("slash_in_name", r'the listing of "/" has the name "../../etc/\x1b[1mpasswd"'),
@@ -316,6 +323,11 @@ def try_memory(steps, folder):
     steps.check("--memory 4: what is too large is said", status == 3 and is_clean(said) and
                 "needs more than 4 bytes of memory (--memory); no tree: the files of the session have 5 bytes in all"
                 in said, f"{status}: {said}")
+    paths = {"env": {**os.environ, "SFTPV3": executable(os.path.join(folder, "paths"), PATHS)}}
+    status, said = run([WALK, "--to", "x", "--", *HOSTILE, "Right"], folder, **paths)
+    steps.check("paths that are too long are not blamed on --memory", status == 3 and is_clean(said) and
+                "the paths that replies tell of have 9 bytes in all" in said and "--memory" not in said,
+                f"{status}: {said}")
     for options, most in ((["--memory", "100000000"], 100_000_000), (["--memory", "1"], 1)):
         status, said = run([WALK, *options, "--to", "x", "--", *HOSTILE, "Right"], folder, **greedy)
         steps.check(f"{' '.join(options)}: more than that infer does not get", status == 3 and is_clean(said) and

@@ -257,6 +257,14 @@ def why_wrong(program, words, folder):
     return lines[0].removeprefix("error: ") if done.returncode == 2 else None
 
 
+def why_too_large(lines, memory):
+    """Why no tree is made of a session that tells too much, behind what the program says of it. Its limit of paths goes
+    by the length of the record alone."""
+    needs = ("has no room for the paths of the session" if any(line.startswith("no tree: the paths ") for line in lines)
+             else f"needs more than {memory:,} bytes of memory (--memory)")
+    return "; ".join([f"`sftpv3 infer` {needs}", *lines])
+
+
 def infer(program, transcript, tree, words=(), memory=MEMORY, stop=None):
     """Has the tree written that explains the session. Gives whether there is one, and what was said of it, on standard
     output and on standard error. Raises Stopped, and ends it, once `stop` is set."""
@@ -265,8 +273,7 @@ def infer(program, transcript, tree, words=(), memory=MEMORY, stop=None):
     said, why = (stream.decode(errors="replace").rstrip("\n") for stream in (done.stdout, done.stderr))
     lines = why.splitlines()
     if done.returncode == 3 and any(line.startswith("sftpv3: out of memory") for line in lines):
-        more = "".join(f"; {line}" for line in lines if line.startswith("no tree: "))
-        raise NotInferred(f"`sftpv3 infer` needs more than {memory:,} bytes of memory (--memory){more}")
+        raise NotInferred(why_too_large([line for line in lines if line.startswith("no tree: ")], memory))
     if done.returncode not in (0, 1):
         raise NotInferred(f"`sftpv3 infer` ended {servers.ending(done.returncode)}{told_by(said, why)}")
     return done.returncode == 0, said, why
