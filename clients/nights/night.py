@@ -5,18 +5,16 @@ import os
 import re
 import resource
 import select
-import signal
 import subprocess
 import sys
 import time
-from contextlib import suppress
 from typing import List, Optional, Sequence
 
 from nights import accepting
 from nights.records import NEW, Copy, Failed, NotTaken, Numbers, Spool, end_of_silence
 from paging import packets
 from probing import program
-from recording import ending, ways
+from recording import children, ending, ways
 
 TREE = os.path.join(program.CLIENTS, "tree")
 # How many lines are printed of a comparison or of what a folder has that no tree holds, and how many of a refusal.
@@ -330,8 +328,6 @@ class Night:
         return self.status
 
 
-# After how many seconds a process is left behind that was killed.
-LEFT_BEHIND = 5
 # The most bytes of a line that are held, and the most that are read at a time.
 LONGEST, PIECE = 4096, 1 << 16
 
@@ -407,31 +403,12 @@ def run(words: Sequence[str], most: int, seconds: float, space: Optional[int] = 
     after so many seconds, when it is killed."""
     told, deadline = Told(most), time.monotonic() + seconds
     limit = None if space is None else lambda: within(space)
-    with ending.put_off() as go_on:
-        # in a session of its own, so that a terminal's SIGINT does not end it
-        running = subprocess.Popen(words, stdin=subprocess.DEVNULL, stdout=subprocess.PIPE, stderr=subprocess.STDOUT,
-                                   bufsize=0, pass_fds=pass_fds, preexec_fn=limit, start_new_session=True)
-        try:
-            go_on()
-            while data := read(running.stdout.fileno(), deadline - time.monotonic(), words, seconds):
-                told.take(data)
-            told.status = running.wait(max(0, deadline - time.monotonic()))
-        except BaseException:
-            kill(running)
-            raise
-        finally:
-            running.stdout.close()
+    with children.child(words, stderr=subprocess.STDOUT, bufsize=0, pass_fds=pass_fds, preexec_fn=limit) as running:
+        while data := read(running.stdout.fileno(), deadline - time.monotonic(), words, seconds):
+            told.take(data)
+        told.status = running.wait(max(0, deadline - time.monotonic()))
     told.end()
     return told
-
-
-def kill(running: subprocess.Popen) -> None:
-    """Ends a process, with what it started. One that the kernel does not let end, since a file system does not answer,
-    is left behind."""
-    with suppress(ProcessLookupError):
-        os.killpg(running.pid, signal.SIGKILL)
-    with suppress(subprocess.TimeoutExpired):
-        running.wait(LEFT_BEHIND)
 
 
 def read(file: int, left: float, words: Sequence[str], seconds: float) -> bytes:

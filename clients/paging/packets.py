@@ -14,9 +14,6 @@ SHORT, LONG, RAW = 40, 512, 256
 # The most names of a NAME, and the most extensions, that are listed.
 LISTED = 20
 
-CODES = {0: "OK", 1: "EOF", 2: "NO_SUCH_FILE", 3: "PERMISSION_DENIED", 4: "FAILURE", 5: "BAD_MESSAGE",
-         6: "NO_CONNECTION", 7: "CONNECTION_LOST", 8: "OP_UNSUPPORTED"}
-
 PLAIN = set(string.printable[:95].encode()) - set(b'"\\')
 
 # Each byte as `sftpv3 show` prints it in a text.
@@ -65,7 +62,7 @@ def escaped(sign):
 
 
 def code_of(code):
-    return f"{code} {CODES.get(code, 'unknown')}"
+    return f"{code} {sftp3.CODES.get(code, 'unknown')}"
 
 
 def flags_of(flags):

@@ -15,9 +15,6 @@ import sftp3
 from probing import shrinking
 from probing.model import Model, apply
 
-CODES = {0: "OK", 1: "EOF", 2: "NO_SUCH_FILE", 3: "PERMISSION_DENIED", 4: "FAILURE", 5: "BAD_MESSAGE",
-         6: "NO_CONNECTION", 7: "CONNECTION_LOST", 8: "OP_UNSUPPORTED"}
-
 KINDS = {"04": "a directory", "10": "a file", "12": "a link"}
 
 # The verdicts on a reply that can be read. An audit by a profile says NotModelled of what it cannot follow.
@@ -132,7 +129,7 @@ def of_reply(line):
     """What a line of `show` says of a reply: `6 S STATUS 3 21 code 0`."""
     words = line.split()
     if len(words) > 6 and words[2] == "STATUS":
-        return f"STATUS with code {words[6]} ({CODES.get(int(words[6]), 'unknown')})"
+        return f"STATUS with code {words[6]} ({sftp3.CODES.get(int(words[6]), 'unknown')})"
     return words[2] if len(words) > 2 else line
 
 

@@ -2,7 +2,6 @@
 import os
 import re
 import resource
-import signal
 import subprocess
 from contextlib import suppress
 from dataclasses import dataclass
@@ -11,7 +10,7 @@ from typing import Dict, List, Optional, Tuple
 import sftp3
 from probing import groups, servers
 from probing.sessions import Session, Stopped
-from recording import ending
+from recording import children
 
 # The options of a profile, which are passed on if the program has them.
 PROFILE_OPTIONS = ["--profile", "--umask", "--new-owner", "--allow", "--except", "--symlink"]
@@ -60,21 +59,13 @@ def of_audit(done):
 def run(words, stop, space=None):
     """Runs a command to its end, in an address space of at most so many bytes; raises Stopped, and ends it, once `stop`
     is set."""
-    # in a session of its own, so that a terminal's SIGINT does not end it
-    with ending.put_off() as go_on, subprocess.Popen(words, stdin=subprocess.DEVNULL, stdout=subprocess.PIPE,
-                                                     stderr=subprocess.PIPE, start_new_session=True) as running:
-        try:
-            go_on()
-            bound(running.pid, space)
-            while not (stop and stop.is_set()):
-                with suppress(subprocess.TimeoutExpired):
-                    said, why = running.communicate(timeout=GLANCE)
-                    return subprocess.CompletedProcess(words, running.returncode, said, why)
-            raise Stopped()
-        except BaseException:
-            with suppress(ProcessLookupError):
-                os.killpg(running.pid, signal.SIGKILL)
-            raise
+    with children.child(words, stderr=subprocess.PIPE) as running:
+        bound(running.pid, space)
+        while not (stop and stop.is_set()):
+            with suppress(subprocess.TimeoutExpired):
+                said, why = running.communicate(timeout=GLANCE)
+                return subprocess.CompletedProcess(words, running.returncode, said, why)
+        raise Stopped()
 
 
 def bound(process, space):

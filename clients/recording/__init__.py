@@ -17,5 +17,7 @@ sessions  the loop that passes packets on, how it ends, and what the client of a
 keeping   the daemon that keeps records in a spool, and what each user has of one
 options   the commands
 ending    signals that end other scripts in order
+children  processes that other scripts start and wait for
+greetings text that comes in place of packets
 parsers   their options, with help and complaints
 """

@@ -4,7 +4,7 @@
 and `trees` tree files. What sessions need is named here, too.
 """
 from sftp3.fields import Fields, Malformed, attributes, names, pairs, string, uint32, uint64
-from sftp3.packets import (APPEND, ATTRS, BAD_MESSAGE, CLIENT, CREAT, DATA, EOF, EXCL, EXTENDED, EXTENDED_REPLY,
+from sftp3.packets import (APPEND, ATTRS, BAD_MESSAGE, CLIENT, CODES, CREAT, DATA, EOF, EXCL, EXTENDED, EXTENDED_REPLY,
                            EXTENSIONS, FAILURE, HANDLE, INIT, LAYOUTS, LONGEST, LOOKERS, NAME, NAMES, NO_SUCH_FILE,
                            OK, OP_UNSUPPORTED, PERMISSION_DENIED, READ, REPLIES, REQUESTS, SERVER, STATUS, TRUNC,
                            VERSION, WRITE, Packet, Reply, Request, decode, encode, front, id_of, init, length, packet,
@@ -12,7 +12,7 @@ from sftp3.packets import (APPEND, ATTRS, BAD_MESSAGE, CLIENT, CREAT, DATA, EOF,
 from sftp3.transcripts import OPENING, each_record, put_records, records, until_fault
 
 __all__ = [
-    "APPEND", "ATTRS", "BAD_MESSAGE", "CLIENT", "CREAT", "DATA", "EOF", "EXCL", "EXTENDED", "EXTENDED_REPLY",
+    "APPEND", "ATTRS", "BAD_MESSAGE", "CLIENT", "CODES", "CREAT", "DATA", "EOF", "EXCL", "EXTENDED", "EXTENDED_REPLY",
     "EXTENSIONS", "FAILURE", "Fields", "HANDLE", "INIT", "LAYOUTS", "LONGEST", "LOOKERS", "Malformed", "NAME", "NAMES",
     "NO_SUCH_FILE", "OK", "OPENING", "OP_UNSUPPORTED", "PERMISSION_DENIED", "Packet", "READ", "REPLIES", "REQUESTS",
     "Reply", "Request", "SERVER", "STATUS", "TRUNC", "VERSION", "WRITE", "attributes", "decode", "each_record",

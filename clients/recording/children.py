@@ -1,0 +1,38 @@
+"""A process that a script starts and waits for: in a session of its own, and ended with all that it started."""
+import os
+import signal
+import subprocess
+from contextlib import contextmanager, suppress
+from typing import Iterator, Sequence
+
+from recording import ending
+
+# How many seconds one that was killed is waited for.
+LEFT_BEHIND = 5
+
+
+@contextmanager
+def child(words: Sequence[str], **options) -> Iterator[subprocess.Popen]:
+    """Starts a command whose output is read. A terminal's SIGINT does not end it. It is killed if the block fails, or a
+    signal ends the block."""
+    with ending.put_off() as go_on:
+        running = subprocess.Popen(words, stdin=subprocess.DEVNULL, stdout=subprocess.PIPE, start_new_session=True,
+                                   **options)
+        try:
+            go_on()
+            yield running
+        except BaseException:
+            kill(running)
+            raise
+        finally:
+            for stream in filter(None, (running.stdout, running.stderr)):
+                stream.close()
+
+
+def kill(running: subprocess.Popen) -> None:
+    """Ends a process, with what it started. One that the kernel does not let end, since a file system does not answer,
+    is left behind."""
+    with suppress(ProcessLookupError):
+        os.killpg(running.pid, signal.SIGKILL)
+    with suppress(subprocess.TimeoutExpired):
+        running.wait(LEFT_BEHIND)
