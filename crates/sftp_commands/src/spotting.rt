@@ -29,10 +29,10 @@ pub fn spot_of<R: Files + AllocGlobal>(
 
 /// Where the fault of a tree file is, if it can be found.
 fn tree_spot<R: Files + AllocGlobal>(rt: &R, name: &str, error: TreeError) -> Option<Spot> {
-    let bytes = fs::read(rt, name).ok()?;
-    let spot = spot_in_tree(rt.alloc(), bytes.as_slice(), error);
-    drop(bytes);
-    spot
+    match fs::open(rt, name) {
+        Ok(file) => spot_in_tree(rt.alloc(), Tally::new(file), error),
+        Err(_) => None,
+    }
 }
 
 /// Where the fault of a transcript is, if it can be found.

@@ -37,10 +37,12 @@ pub(crate) struct Fields<'a> {
 
 impl<'a> Fields<'a> {
     pub(crate) fn new(bytes: &'a [u8]) -> Fields<'a> {
-        Fields {
-            rest: bytes,
-            place: 0,
-        }
+        Fields::at(bytes, 0)
+    }
+
+    /// The bytes of a file from this place on.
+    pub(crate) fn at(bytes: &'a [u8], place: u64) -> Fields<'a> {
+        Fields { rest: bytes, place }
     }
 
     /// The bytes that are not read yet.

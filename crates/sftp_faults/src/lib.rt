@@ -3,6 +3,7 @@
 
 mod fields;
 mod packets;
+mod pages;
 mod records;
 mod trees;
 

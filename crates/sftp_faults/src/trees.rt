@@ -1,7 +1,9 @@
 //! Where the fault of a tree file is.
 
 use crate::fields::{Fields, Spot};
+use crate::pages::{Pages, Stop};
 use sftp_path::{DEPTH_LIMIT, good_path, place_of_text};
+use sftp_streams::Source;
 use sftp_treefile::{
     Opening, TreeError, TreeLimits, highest_limits, least_limits, most_limits, usual_limits,
 };
@@ -21,6 +23,12 @@ const OPENING_WIDE: &[u8] = b"SFTREE03";
 
 /// The least length of the bytes of a file that is a uint64.
 const LONG: u64 = 1 << 32;
+
+/// The first field.
+const START: Spot = Spot {
+    field: "opening",
+    place: 0,
+};
 
 /// What is said of a file before one of its entries.
 #[derive(Clone, Copy)]
@@ -42,60 +50,123 @@ struct Letter {
     is_long: bool,
 }
 
-/// The field in which a file has this fault, which is its first one. `None` if memory runs out.
-pub fn spot_in_tree(alloc: Global, bytes: &[u8], error: TreeError) -> Option<Spot> {
-    let mut fields = Fields::new(bytes);
-    match error {
-        TreeError::NoMemory | TreeError::Io { .. } => None,
-        TreeError::Magic { .. } => Some(fields.spot("opening")),
-        TreeError::Order { entry } | TreeError::Parent { entry } => {
-            Some(path_spot(&mut fields, entry))
+/// The bytes of a file.
+#[derive(Clone, Copy)]
+struct Contents {
+    /// The field that has the fault if there are fewer.
+    spot: Spot,
+    length: u64,
+}
+
+/// The field in which a tree file has this fault, which is its first one. No more of the file is held than a window, and
+/// of each entry before the fault whether it is the first name of a file. `None` if memory runs out or the source fails.
+pub fn spot_in_tree<R: Source>(alloc: Global, source: R, error: TreeError) -> Option<Spot>
+where
+    R: Drop,
+{
+    let found = match Pages::new(alloc, source) {
+        Ok(mut pages) => {
+            let found = spot_in_pages(alloc, &mut pages, error);
+            drop(pages);
+            found
         }
-        TreeError::Trailing { entry } => Some(end_spot(&mut fields, entry)),
-        TreeError::Short { entry } => match judge(alloc, bytes, entry) {
-            Ok(()) => None,
-            Err(spot) => Some(spot),
-        },
-        TreeError::Value { entry } => Some(value_spot(alloc, bytes, entry)),
+        Err(stop) => Err(stop),
+    };
+    match found {
+        Ok(spot) | Err(Stop::At(spot)) => Some(spot),
+        Err(Stop::Unread) => None,
     }
 }
 
-/// Where the value is that is out of its range. Where each value of the entry is in its range, another opening holds
-/// the file.
-fn value_spot(alloc: Global, bytes: &[u8], entry: u32) -> Spot {
-    match judge(alloc, bytes, entry) {
-        Ok(()) => Fields::new(bytes).spot("opening"),
-        Err(spot) => spot,
-    }
+fn spot_in_pages<R: Source>(
+    alloc: Global,
+    pages: &mut Pages<R>,
+    error: TreeError,
+) -> Result<Spot, Stop> {
+    let mut firsts = Vec::new(alloc);
+    let found = spot_behind(alloc, pages, &mut firsts, error);
+    drop(firsts);
+    found
 }
 
-/// Where the path of an entry is.
-fn path_spot(fields: &mut Fields<'_>, entry: u32) -> Spot {
-    match pass_before(fields, entry) {
-        Ok(_) => fields.spot("path"),
-        Err(spot) => spot,
-    }
-}
-
-/// Where the bytes behind the last entry are. The number is one more than that entry's.
-fn end_spot(fields: &mut Fields<'_>, entry: u32) -> Spot {
-    match pass_before(fields, entry) {
-        Ok(_) => fields.spot("the end of the entries"),
-        Err(spot) => spot,
+/// Where the fault is. No entry is passed yet.
+fn spot_behind<R: Source>(
+    alloc: Global,
+    pages: &mut Pages<R>,
+    firsts: &mut Vec<bool>,
+    error: TreeError,
+) -> Result<Spot, Stop> {
+    match error {
+        TreeError::NoMemory | TreeError::Io { .. } => Err(Stop::Unread),
+        TreeError::Magic { .. } => Ok(START),
+        TreeError::Order { entry } | TreeError::Parent { entry } => {
+            pass_before(pages, firsts, entry)?;
+            Ok(pages.fields().spot("path"))
+        }
+        TreeError::Trailing { entry } => {
+            // The number is one more than the last entry's.
+            pass_before(pages, firsts, entry)?;
+            Ok(pages.fields().spot("the end of the entries"))
+        }
+        TreeError::Short { entry } => {
+            judge(alloc, pages, firsts, entry)?;
+            Err(Stop::Unread)
+        }
+        TreeError::Value { entry } => {
+            // Where each value of the entry is in its range, another opening holds the file.
+            judge(alloc, pages, firsts, entry)?;
+            Ok(START)
+        }
     }
 }
 
 /// Passes the head and the entries before this one.
-fn pass_before(fields: &mut Fields<'_>, entry: u32) -> Result<Before, Spot> {
-    let mut before = pass_head(fields)?;
+fn pass_before<R: Source>(
+    pages: &mut Pages<R>,
+    firsts: &mut Vec<bool>,
+    entry: u32,
+) -> Result<Before, Stop> {
+    let mut before = pass_head(pages)?;
     for _ in 1..entry {
-        let length = pass_entry(fields)?;
+        let length = pass_entry(pages, firsts)?;
         before.room = before.room.saturating_sub(length);
     }
     Ok(before)
 }
 
-fn pass_head(fields: &mut Fields<'_>) -> Result<Before, Spot> {
+fn pass_head<R: Source>(pages: &mut Pages<R>) -> Result<Before, Stop> {
+    pages.fill()?;
+    let mut fields = pages.fields();
+    let before = pass_settings(&mut fields)?;
+    let left = fields.rest().len();
+    pages.leave(left);
+    Ok(before)
+}
+
+/// Passes an entry, and returns how many bytes a file has that comes with it.
+fn pass_entry<R: Source>(pages: &mut Pages<R>, firsts: &mut Vec<bool>) -> Result<u64, Stop> {
+    pages.fill()?;
+    let mut fields = pages.fields();
+    let contents = pass_named(&mut fields)?;
+    let left = fields.rest().len();
+    pages.leave(left);
+    firsts.push(contents.is_some())?;
+    pass_contents(pages, contents)
+}
+
+/// Passes the bytes of a file, if there is one, and returns how many they are.
+fn pass_contents<R: Source>(pages: &mut Pages<R>, contents: Option<Contents>) -> Result<u64, Stop> {
+    let Some(contents) = contents else {
+        return Ok(0);
+    };
+    if pages.pass(contents.length)? {
+        Ok(contents.length)
+    } else {
+        Err(Stop::At(contents.spot))
+    }
+}
+
+fn pass_settings(fields: &mut Fields<'_>) -> Result<Before, Spot> {
     let opening = pass_opening(fields)?;
     fields.text("home")?;
     let limits = judge_settings(fields, opening)?;
@@ -223,32 +294,34 @@ fn letter_of(opening: Opening, kind: u8) -> Option<Letter> {
     })
 }
 
-/// Passes an entry, and returns how many bytes a file has that comes with it.
-fn pass_entry(fields: &mut Fields<'_>) -> Result<u64, Spot> {
+/// Passes an entry up to the bytes of its file. Returns these if it is the first name of a file.
+fn pass_named(fields: &mut Fields<'_>) -> Result<Option<Contents>, Spot> {
     fields.text("path")?;
     let kind = fields.byte("kind")?;
     match letter_of(Opening::Wide, kind) {
         Some(letter) => pass_owned(fields, letter),
         None if kind == b'H' => {
-            fields.pass(4, "number of the first name")?;
-            Ok(0)
+            fields.number("number of the first name")?;
+            Ok(None)
         }
         None => {
             fields.text("target")?;
-            Ok(0)
+            Ok(None)
         }
     }
 }
 
 /// Passes what the entry of a directory or of a file says behind its letter.
-fn pass_owned(fields: &mut Fields<'_>, letter: Letter) -> Result<u64, Spot> {
+fn pass_owned(fields: &mut Fields<'_>, letter: Letter) -> Result<Option<Contents>, Spot> {
     pass_owner(fields, letter.has_times)?;
     if !letter.is_file {
-        return Ok(0);
+        return Ok(None);
     }
     let length = length_at(fields, letter.is_long)?;
-    pass_bytes(fields, length)?;
-    Ok(length)
+    Ok(Some(Contents {
+        spot: fields.spot("bytes"),
+        length,
+    }))
 }
 
 /// Reads the number of the bytes of a file.
@@ -260,30 +333,44 @@ fn length_at(fields: &mut Fields<'_>, is_long: bool) -> Result<u64, Spot> {
     }
 }
 
-/// Passes the bytes of a file.
-fn pass_bytes(fields: &mut Fields<'_>, length: u64) -> Result<(), Spot> {
-    match usize::try_from(length) {
-        Ok(length) => fields.pass(length, "bytes"),
-        Err(_) => Err(fields.spot("bytes")),
-    }
-}
-
 /// The first field of the entry, or of the head for 0, that is not whole or out of its range.
-fn judge(alloc: Global, bytes: &[u8], entry: u32) -> Result<(), Spot> {
-    let mut fields = Fields::new(bytes);
+fn judge<R: Source>(
+    alloc: Global,
+    pages: &mut Pages<R>,
+    firsts: &mut Vec<bool>,
+    entry: u32,
+) -> Result<(), Stop> {
     if entry == 0 {
-        return judge_head(alloc, &mut fields);
+        pages.fill()?;
+        return judge_head(alloc, &mut pages.fields());
     }
-    let before = pass_before(&mut fields, entry)?;
-    judge_entry(alloc, before, bytes, entry, &mut fields)
+    let before = pass_before(pages, firsts, entry)?;
+    judge_entry(alloc, pages, firsts.as_slice(), before)
 }
 
-fn judge_head(alloc: Global, fields: &mut Fields<'_>) -> Result<(), Spot> {
+/// Judges the entry after those that were passed.
+fn judge_entry<R: Source>(
+    alloc: Global,
+    pages: &mut Pages<R>,
+    firsts: &[bool],
+    before: Before,
+) -> Result<(), Stop> {
+    pages.fill()?;
+    let mut fields = pages.fields();
+    let contents = judge_named(alloc, before, firsts, &mut fields)?;
+    let left = fields.rest().len();
+    pages.leave(left);
+    pass_contents(pages, contents)?;
+    Ok(())
+}
+
+fn judge_head(alloc: Global, fields: &mut Fields<'_>) -> Result<(), Stop> {
     let opening = pass_opening(fields)?;
     judge_place(alloc, fields, "home", 0)?;
     let limits = judge_settings(fields, opening)?;
     judge_count(limits, fields)?;
-    judge_root(opening, fields)
+    judge_root(opening, fields)?;
+    Ok(())
 }
 
 fn judge_count(limits: TreeLimits, fields: &mut Fields<'_>) -> Result<(), Spot> {
@@ -332,61 +419,64 @@ fn judge_times(fields: &mut Fields<'_>) -> Result<(), Spot> {
     Ok(())
 }
 
-fn judge_entry(
+/// Judges an entry up to the bytes of its file, and how many these are. Returns them if it is the first name of a file.
+fn judge_named(
     alloc: Global,
     before: Before,
-    bytes: &[u8],
-    entry: u32,
+    firsts: &[bool],
     fields: &mut Fields<'_>,
-) -> Result<(), Spot> {
+) -> Result<Option<Contents>, Stop> {
     judge_place(alloc, fields, "path", 1)?;
+    let contents = judge_kind(before, firsts, fields)?;
+    Ok(contents)
+}
+
+/// Judges what an entry says behind its path.
+fn judge_kind(
+    before: Before,
+    firsts: &[bool],
+    fields: &mut Fields<'_>,
+) -> Result<Option<Contents>, Spot> {
     let spot = fields.spot("kind");
     let kind = fields.byte("kind")?;
     match letter_of(before.opening, kind) {
         Some(letter) => judge_owned(before, letter, fields),
-        None if kind == b'H' => judge_first(bytes, entry, fields),
+        None if kind == b'H' => judge_first(firsts, fields),
         None if kind == b'L' => judge_target(fields),
         None => Err(spot),
     }
 }
 
 /// Judges what the entry of a directory or of a file says behind its letter.
-fn judge_owned(before: Before, letter: Letter, fields: &mut Fields<'_>) -> Result<(), Spot> {
+fn judge_owned(
+    before: Before,
+    letter: Letter,
+    fields: &mut Fields<'_>,
+) -> Result<Option<Contents>, Spot> {
     judge_owner(fields, letter.has_times)?;
     if letter.is_file {
-        return judge_bytes(before, letter.is_long, fields);
+        return judge_length(before, letter.is_long, fields);
     }
-    Ok(())
+    Ok(None)
 }
 
 /// Judges the number of the entry that is the first name of a file.
-fn judge_first(bytes: &[u8], entry: u32, fields: &mut Fields<'_>) -> Result<(), Spot> {
+fn judge_first(firsts: &[bool], fields: &mut Fields<'_>) -> Result<Option<Contents>, Spot> {
     let spot = fields.spot("number of the first name");
     let number = fields.number("number of the first name")?;
-    if number == 0 || number >= entry || !is_first(bytes, number) {
-        return Err(spot);
-    }
-    Ok(())
-}
-
-/// Whether the entry of this number, all before which can be read, is the first name of a file.
-fn is_first(bytes: &[u8], number: u32) -> bool {
-    let mut fields = Fields::new(bytes);
-    let kind = kind_at(&mut fields, number);
-    match kind {
-        Ok(kind) => match letter_of(Opening::Wide, kind) {
-            Some(letter) => letter.is_file,
-            None => false,
-        },
-        Err(_) => false,
+    if is_first(firsts, number) {
+        Ok(None)
+    } else {
+        Err(spot)
     }
 }
 
-/// The letter of an entry.
-fn kind_at(fields: &mut Fields<'_>, number: u32) -> Result<u8, Spot> {
-    pass_before(fields, number)?;
-    fields.text("path")?;
-    fields.byte("kind")
+/// Whether the entry of this number, from 1, is the first name of a file.
+fn is_first(firsts: &[bool], number: u32) -> bool {
+    match number.checked_sub(1) {
+        Some(place) => firsts.get(place as usize).is_some_and(|is_first| *is_first),
+        None => false,
+    }
 }
 
 /// Judges the text of a place that has at least so many names.
@@ -395,7 +485,7 @@ fn judge_place(
     fields: &mut Fields<'_>,
     field: &'static str,
     least: usize,
-) -> Result<(), Spot> {
+) -> Result<(), Stop> {
     let spot = fields.spot(field);
     let text = fields.text(field)?;
     match place_of_text(alloc, text) {
@@ -403,41 +493,38 @@ fn judge_place(
             let depth = place.depth();
             drop(place);
             if depth < least || depth > DEPTH_LIMIT {
-                return Err(spot);
+                return Err(Stop::At(spot));
             }
             Ok(())
         }
-        _ => Err(spot),
+        Ok(None) => Err(Stop::At(spot)),
+        Err(_) => Err(Stop::Unread),
     }
 }
 
-/// Judges the bytes of a file, with their length.
-fn judge_bytes(before: Before, is_long: bool, fields: &mut Fields<'_>) -> Result<(), Spot> {
+/// Judges the number of the bytes of a file: one of eight bytes is 2^32 or more. Returns the bytes, whose fault is that
+/// of the number.
+fn judge_length(
+    before: Before,
+    is_long: bool,
+    fields: &mut Fields<'_>,
+) -> Result<Option<Contents>, Spot> {
     let spot = fields.spot("bytes");
-    let length = judge_length(is_long, spot, fields)?;
-    if pass_bytes(fields, length).is_err() {
+    let length = length_at(fields, is_long)?;
+    if is_long && length < LONG {
         return Err(spot);
     }
     if length > before.limits.file_bytes.min(before.room) {
         return Err(spot);
     }
-    Ok(())
+    Ok(Some(Contents { spot, length }))
 }
 
-/// Judges the number of the bytes of a file: one of eight bytes is 2^32 or more.
-fn judge_length(is_long: bool, spot: Spot, fields: &mut Fields<'_>) -> Result<u64, Spot> {
-    let length = length_at(fields, is_long)?;
-    if is_long && length < LONG {
-        return Err(spot);
-    }
-    Ok(length)
-}
-
-fn judge_target(fields: &mut Fields<'_>) -> Result<(), Spot> {
+fn judge_target(fields: &mut Fields<'_>) -> Result<Option<Contents>, Spot> {
     let spot = fields.spot("target");
     let target = fields.text("target")?;
     if target.is_empty() || !good_path(target) {
         return Err(spot);
     }
-    Ok(())
+    Ok(None)
 }
