@@ -10,18 +10,20 @@ use Rattle.sftp_files.specs.declared.messages.Failure.{Failure}
 use Rattle.sftp_files.specs.declared.messages.Failure.TheVariants as failures
 use Rattle.sftp_files.specs.Failures.{tree_failure, IsTranscriptFailure}
 use Rattle.sftp_tree.specs.Tree.{Tree}
-use Rattle.sftp_handles.specs.State.{closed_tree}
+use Rattle.sftp_handles.specs.State.{started, closed_tree}
+use Rattle.sftp_handles.specs.Allowed.{Allowed}
 use Rattle.sftp_profile.specs.declared.profiles.Profile.{Profile}
 use Rattle.sftp_profile.specs.State.{begun}
 use Rattle.sftp_profile.specs.Permitted.{Permitted}
 use Rattle.sftp_transcript.specs.declared.events.Event.{Event}
+use Rattle.sftp_transcript.specs.Explained.{StepOf}
 use Rattle.sftp_audit.specs.declared.cuts.EndedCut.{EndedCut}
 use Rattle.sftp_audit.specs.declared.trees.Ended.{Ended}
 use Rattle.sftp_audit.specs.Exchanges.{recorded_exchanges}
-use Rattle.sftp_audit.specs.Audit.{Accounts, IsFirstFault, IsFirstFaultBy, IsNoJudgement, request_count}
-use Rattle.sftp_audit.specs.Cuts.{AccountsCut, AccountsCutBy, unanswered_count, unsettled_count}
+use Rattle.sftp_audit.specs.Audit.{AccountsBy, IsFirstFaultBy, IsNoJudgement, request_count}
+use Rattle.sftp_audit.specs.Cuts.{AccountsCutBy, unanswered_count, unsettled_count}
 use Rattle.sftp_files.specs.declared.messages.Ending.TheVariants as endings
-use Rattle.sftp_verdicts.specs.Verdicts.{AccountOf, HasRun, AccountsUnder}
+use Rattle.sftp_verdicts.specs.Verdicts.{AccountOf, HasRun}
 
 -- ==== What the error of an audit is to a run.
 
@@ -37,9 +39,18 @@ IsOutcome name audit_errors.NoMemory result = result ≡ Err failures.OutOfMemor
 abbrev pub FaultOf : Type 1
 FaultOf = List ℕ → List ℕ → AuditError → Type 0
 
--- what the result of an accepted session has, of its events and its end
-abbrev pub ResultOf : Type 0 → Type 1
-ResultOf A = A → List Event → Tree → Type 0
+-- The tree after the requests before the oldest unanswered one, the number of all requests, of those from that one on,
+-- which are not judged, and of those that are unanswered. In a complete session none is unanswered, so each is judged.
+abbrev pub HasEnd : EndedCut → List Event → Tree → Type 0
+HasEnd ended events end =
+    (ended.tree ≡ end) × (ended.requests ≡ request_count events)
+    × (ended.unsettled ≡ unsettled_count events)
+    × (ended.unanswered ≡ unanswered_count (recorded_exchanges events))
+
+-- the result of a complete session as that of one that may have been cut
+abbrev pub uncut : Result Ended AuditError → Result EndedCut AuditError
+uncut (Ok ended) = Ok (record { tree = ended.tree; requests = ended.requests; unsettled = 0; unanswered = 0 })
+uncut (Err error) = Err error
 
 -- they account for none
 abbrev pub HasNoRun : AccountOf → List ℕ → List ℕ → Type 0
@@ -48,13 +59,12 @@ HasNoRun accounts tree transcript =
 
 -- A session is accepted where they account for a run, with its result; it is refused where they account for none, with
 -- the first fault. An error that is no judgement says nothing.
-abbrev pub IsAudit : {A : Type 0} → AccountOf → FaultOf → ResultOf A → List ℕ → Option (List ℕ) → Result A AuditError
-    → Type 0
-IsAudit accounts faults has tree known (Ok accepted) =
+abbrev pub IsAudit : AccountOf → FaultOf → List ℕ → Option (List ℕ) → Result EndedCut AuditError → Type 0
+IsAudit accounts faults tree known (Ok ended) =
     (transcript : List ℕ) → known ≡ Some transcript
     → (start : Tree) × (events : List Event) × (end : Tree)
-    × accounts tree transcript start events end × has accepted events end
-IsAudit accounts faults has tree known (Err error) =
+    × accounts tree transcript start events end × HasEnd ended events end
+IsAudit accounts faults tree known (Err error) =
     (IsNoJudgement error → ⊥) → (transcript : List ℕ) → known ≡ Some transcript
     → HasNoRun accounts tree transcript × faults tree transcript error
 
@@ -73,64 +83,28 @@ abbrev pub IsReportOfError : AuditError → Ending → Type 0
 IsReportOfError error ending = (ending ≡ endings.Refused) × (IsNoJudgement error → ⊥)
 
 -- The session is accepted or refused as by the audit. Where the run fails this says nothing.
-abbrev pub IsReportOf : {A : Type 0} → Result A AuditError → Result Ending Failure → Type 0
-IsReportOf (Ok accepted) result = IfOk result (λ ending. ending ≡ endings.Done)
+abbrev pub IsReportOf : Result EndedCut AuditError → Result Ending Failure → Type 0
+IsReportOf (Ok ended) result = IfOk result (λ ending. ending ≡ endings.Done)
 IsReportOf (Err error) result = IfOk result (IsReportOfError error)
-
--- ---- strictly, or under a profile
-
-abbrev pub IsFirstFaultUnder : Profile → FaultOf
-IsFirstFaultUnder profile = IsFirstFaultBy Permitted (begun profile)
-
--- the tree where the session ends, and the number of its requests
-abbrev pub HasEnd : ResultOf Ended
-HasEnd ended events end = (ended.tree ≡ end) × (ended.requests ≡ request_count events)
-
-abbrev pub IsStrictAudit : List ℕ → Option (List ℕ) → Result Ended AuditError → Type 0
-IsStrictAudit = IsAudit Accounts IsFirstFault HasEnd
-
-abbrev pub IsAuditUnder : Profile → List ℕ → Option (List ℕ) → Result Ended AuditError → Type 0
-IsAuditUnder profile = IsAudit (AccountsUnder profile) (IsFirstFaultUnder profile) HasEnd
-
-abbrev pub IsStrictVerdict : List ℕ → Option (List ℕ) → Ending → Type 0
-IsStrictVerdict = IsVerdict Accounts
-
-abbrev pub IsVerdictUnder : Profile → List ℕ → Option (List ℕ) → Ending → Type 0
-IsVerdictUnder profile = IsVerdict (AccountsUnder profile)
-
--- ---- the same of sessions that may have been cut
-
-abbrev pub AccountsCutUnder : Profile → AccountOf
-AccountsCutUnder profile = AccountsCutBy Permitted (begun profile) (λ s. closed_tree s.session)
-
--- The tree after the requests before the oldest unanswered one, the number of all requests, of those from that one on,
--- which are not judged, and of those that are unanswered.
-abbrev pub HasCutEnd : ResultOf EndedCut
-HasCutEnd ended events end =
-    (ended.tree ≡ end) × (ended.requests ≡ request_count events)
-    × (ended.unsettled ≡ unsettled_count events)
-    × (ended.unanswered ≡ unanswered_count (recorded_exchanges events))
-
-abbrev pub IsStrictCutAudit : List ℕ → Option (List ℕ) → Result EndedCut AuditError → Type 0
-IsStrictCutAudit = IsAudit AccountsCut IsFirstFault HasCutEnd
-
-abbrev pub IsCutAuditUnder : Profile → List ℕ → Option (List ℕ) → Result EndedCut AuditError → Type 0
-IsCutAuditUnder profile = IsAudit (AccountsCutUnder profile) (IsFirstFaultUnder profile) HasCutEnd
-
-abbrev pub IsStrictCutVerdict : List ℕ → Option (List ℕ) → Ending → Type 0
-IsStrictCutVerdict = IsVerdict AccountsCut
-
-abbrev pub IsCutVerdictUnder : Profile → List ℕ → Option (List ℕ) → Ending → Type 0
-IsCutVerdictUnder profile = IsVerdict (AccountsCutUnder profile)
 
 -- ---- what the options ask for
 
+-- complete sessions by this judge; if so asked, those that may have been cut too
+abbrev pub accounts_by : {S : Type 0} → Bool → StepOf S → (Tree → S) → (S → Tree) → AccountOf
+accounts_by false step begin close = AccountsBy step begin close
+accounts_by true step begin close = AccountsCutBy step begin close
+
 -- without a profile strictly; with `--cut` also sessions that were cut
 abbrev pub accounts_asked : Option Profile → Bool → AccountOf
-accounts_asked None false = Accounts
-accounts_asked (Some profile) false = AccountsUnder profile
-accounts_asked None true = AccountsCut
-accounts_asked (Some profile) true = AccountsCutUnder profile
+accounts_asked None cuts = accounts_by cuts Allowed started closed_tree
+accounts_asked (Some profile) cuts = accounts_by cuts Permitted (begun profile) (λ s. closed_tree s.session)
+
+abbrev pub fault_asked : Option Profile → FaultOf
+fault_asked None = IsFirstFaultBy Allowed started
+fault_asked (Some profile) = IsFirstFaultBy Permitted (begun profile)
+
+abbrev pub IsResultAsked : Option Profile → Bool → List ℕ → Option (List ℕ) → Result EndedCut AuditError → Type 0
+IsResultAsked profile cuts = IsAudit (accounts_asked profile cuts) (fault_asked profile)
 
 abbrev pub IsVerdictAsked : Option Profile → Bool → List ℕ → Option (List ℕ) → Ending → Type 0
 IsVerdictAsked profile cuts = IsVerdict (accounts_asked profile cuts)

@@ -1,28 +1,26 @@
 //! The subcommand `audit`: the session of a transcript, judged with the tree of a file.
-ghost use Rattle.std.specs.Prelude.{◌≡◌, ◌≤◌, ℕ, List, None, Some, IfOk, IfErr};
+ghost use Rattle.std.specs.Prelude.{◌≡◌, ◌≤◌, ℕ, List, Option, Some, IfOk, IfErr};
 ghost use Rattle.sftp_tree.specs.Picture.{IsStart};
-ghost use Rattle.sftp_audit.specs.Audit.{AccountsBy, IsFirstFaultBy};
+ghost use Rattle.sftp_audit.specs.Audit.{IsFirstFaultBy, IsNew};
 ghost use Rattle.sftp_files.specs.declared.messages.Ending.TheVariants as endings;
-ghost use Rattle.sftp_profile.specs.declared.profiles.Profile.{Profile as profile};
 ghost use Rattle.sftp_files.specs.Failures.{IsUnwritten};
 ghost use Rattle.sftp_files.specs.Failures.{failure_status};
 ghost use Rattle.sftp_verdicts.specs.Verdicts.{IsAuditStatus};
-ghost use Rattle.sftp_auditing.specs.Audits.{IsOutcome};
-ghost use Rattle.sftp_auditing.specs.Audits.{IsAudit, IsStrictAudit, IsAuditUnder, HasEnd, IsReportOf, IsReportOfError};
-ghost use Rattle.sftp_auditing.specs.Audits.{IsStrictVerdict, IsVerdictUnder, IsVerdictAsked};
+ghost use Rattle.sftp_auditing.specs.Audits.{accounts_by, uncut};
+ghost use Rattle.sftp_auditing.specs.Audits.{IsOutcome, IsAudit, IsResultAsked, IsReportOf, IsReportOfError, IsVerdictAsked};
 
-use crate::cut_sessions::{Counts, judge_cut_and_report, say_accepted};
+use crate::counts::{counts_of, say_accepted};
 use crate::explaining::explain;
 use crate::going_on::report_findings;
 use crate::verdict_objects::print_refused;
-use sftp_audit::{AuditError, Ended, Refusal, audit_tree_by};
+use sftp_audit::{AuditError, Ended, EndedCut, Refusal, audit_cut_tree_by, audit_tree_by};
 use sftp_commands::{LeftOut, is_lost, read_tree_in_view, write_tree};
 use sftp_files::{BoundedRecords, Ending, Failure, Meter, Repeatable, System, open, print};
 use sftp_handles::{GivenTable, Session};
 use sftp_judges::Judges;
 use sftp_profile::{Judge, Profile};
 use sftp_progress::{Progress, Task, Tracked};
-use sftp_transcript::{Reader, Tally};
+use sftp_transcript::{Reader, Source, Tally};
 use sftp_tree::Tree;
 use sftp_treefile::TreeError;
 use sftp_verdicts::{AuditOptions, TRANSCRIPT_LOST, umask_of, with_umask};
@@ -123,8 +121,7 @@ fn audit_from<'a, R: System + Clock, O: Write, E: Write + IsTerminal>(
     }
 }
 
-/// Audits the session of this transcript, within the limit on memory if there is one. Without an option of a profile
-/// the session is judged strictly, and without `--cut` it has to be complete.
+/// Audits the session of this transcript, within the limit on memory if there is one.
 fn audit_transcript<'a, F: Read + Drop, R: System + Clock, O: Write, E: Write + IsTerminal>(
     rt: &R,
     files: &AuditOptions<'a>,
@@ -141,7 +138,7 @@ fn audit_transcript<'a, F: Read + Drop, R: System + Clock, O: Write, E: Write + 
 {
     match files.memory {
         Some(_) => audit_within(rt, files, start, kept, transcript, output, errors),
-        None => judge_as_asked(rt, files, start, kept, transcript, output, errors),
+        None => judge_and_report(rt, files, start, kept, transcript, output, errors),
     }
 }
 
@@ -162,15 +159,15 @@ fn audit_within<'a, F: Read + Drop, R: System + Clock, O: Write, E: Write + IsTe
 {
     let mut meter = Meter::new(rt, files.memory)?;
     let bounded = BoundedRecords::new(rt.alloc(), transcript, &mut meter)?;
-    match judge_as_asked(rt, files, start, kept, bounded, output, errors) {
+    match judge_and_report(rt, files, start, kept, bounded, output, errors) {
         Err(_) if meter.is_over() => Err(Failure::OverLimit(files.transcript)),
         ending => ending,
     }
 }
 
-/// Audits the session of this transcript, as one that may have been cut if the options say so, and says what came of
-/// it.
-fn judge_as_asked<'a, F: Read + Drop, R: System + Clock, O: Write, E: Write + IsTerminal>(
+/// Audits the session of this transcript and says what came of it. Without an option of a profile the session is judged
+/// strictly, and without `--cut` it has to be complete.
+fn judge_and_report<'a, F: Read + Drop, R: System + Clock, O: Write, E: Write + IsTerminal>(
     rt: &R,
     files: &AuditOptions<'a>,
     start: Tree,
@@ -182,30 +179,6 @@ fn judge_as_asked<'a, F: Read + Drop, R: System + Clock, O: Write, E: Write + Is
     // The verdict on each tree file of this tree.
     ensures verdict { (tree : List ℕ) → IsStart start tree →
         IfOk result (IsVerdictAsked files.now.profile files.now.cuts tree (F.remaining transcript)) }
-    ensures status { IsAuditStatus result }
-{
-    if files.cuts {
-        judge_cut_and_report(rt, files, start, kept, transcript, output, errors)
-    } else {
-        judge_and_report(rt, files, start, kept, transcript, output, errors)
-    }
-}
-
-/// Audits the session of this transcript, which has to be complete, and says what came of it.
-fn judge_and_report<'a, F: Read + Drop, R: System + Clock, O: Write, E: Write + IsTerminal>(
-    rt: &R,
-    files: &AuditOptions<'a>,
-    start: Tree,
-    kept: &str,
-    transcript: F,
-    output: &mut O,
-    errors: &mut E,
-) -> Result<Ending, Failure<'a>>
-    // The verdict on each tree file of this tree.
-    ensures strictly { (tree : List ℕ) → IsStart start tree → files.now.profile ≡ None →
-        IfOk result (IsStrictVerdict tree (F.remaining transcript)) }
-    ensures under { (tree : List ℕ) → IsStart start tree → (by : profile) → files.now.profile ≡ Some by →
-        IfOk result (IsVerdictUnder by tree (F.remaining transcript)) }
     ensures status { IsAuditStatus result }
 {
     let mut follows = true;
@@ -220,7 +193,7 @@ fn report<'a, R: System, O: Write, E: Write>(
     rt: &R,
     files: &AuditOptions<'a>,
     kept: &str,
-    judged: &Result<Ended, AuditError>,
+    judged: &Result<EndedCut, AuditError>,
     follows: bool,
     output: &mut O,
     errors: &mut E,
@@ -242,7 +215,7 @@ pub(crate) struct Finding {
 }
 
 /// Says why a session of these files is not accepted.
-pub(crate) fn report_error<'a, R: System, O: Write, E: Write>(
+fn report_error<'a, R: System, O: Write, E: Write>(
     rt: &R,
     files: &AuditOptions<'a>,
     kept: &str,
@@ -338,38 +311,43 @@ fn judge_in_view<F: Read + Drop, R: System + Clock, E: Write + IsTerminal>(
     transcript: F,
     follows: &mut bool,
     errors: &mut E,
-) -> Result<Ended, AuditError>
-    ensures strictly { (tree : List ℕ) → IsStart start tree → files.now.profile ≡ None →
-        IsStrictAudit tree (F.remaining transcript) result }
-    ensures under { (tree : List ℕ) → IsStart start tree → (by : profile) → files.now.profile ≡ Some by →
-        IsAuditUnder by tree (F.remaining transcript) result }
+) -> Result<EndedCut, AuditError>
+    ensures { (tree : List ℕ) → IsStart start tree →
+        IsResultAsked files.now.profile files.now.cuts tree (F.remaining transcript) result }
 {
     let is_asked = files.says_progress;
     let file = Some(files.transcript);
     let mut progress = Progress::new(rt, errors, is_asked, Task::ReadTranscript, file);
     let tracked = Tracked::new(transcript, &mut progress);
-    let judged = judge(rt.alloc(), files.profile, start, tracked, follows);
+    let judged = judge(
+        rt.alloc(),
+        files.profile,
+        files.cuts,
+        start,
+        tracked,
+        follows,
+    );
     progress.end();
     judged
 }
 
-/// Audits the session of a transcript that is read as a stream: strictly, or under a profile. `follows` is set to
-/// whether the profile follows it up to where it is refused; strictly each session is followed.
+/// Audits the session of a transcript that is read as a stream, complete or with `cuts` cut too: strictly, or under a
+/// profile. `follows` is set to whether the profile follows it up to where it is refused; strictly each session is
+/// followed.
 fn judge<F: Read + Drop>(
     alloc: Global,
     by: Option<Profile>,
+    cuts: bool,
     start: Tree,
     transcript: F,
     follows: &mut bool,
-) -> Result<Ended, AuditError>
-    ensures strictly { (tree : List ℕ) → IsStart start tree → by ≡ None →
-        IsStrictAudit tree (F.remaining transcript) result }
-    ensures under { (tree : List ℕ) → IsStart start tree → (it : profile) → by ≡ Some it →
-        IsAuditUnder it tree (F.remaining transcript) result }
+) -> Result<EndedCut, AuditError>
+    ensures { (tree : List ℕ) → IsStart start tree →
+        IsResultAsked by cuts tree (F.remaining transcript) result }
 {
     match by {
-        None => judge_by::<Session<GivenTable>, F>(alloc, (), start, transcript, follows),
-        Some(profile) => judge_by::<Judge, F>(alloc, profile, start, transcript, follows),
+        None => judge_by::<Session<GivenTable>, F>(alloc, (), cuts, start, transcript, follows),
+        Some(profile) => judge_by::<Judge, F>(alloc, profile, cuts, start, transcript, follows),
     }
 }
 
@@ -377,19 +355,20 @@ fn judge<F: Read + Drop>(
 fn judge_by<J: Judges, F: Read + Drop>(
     alloc: Global,
     by: J::By,
+    cuts: bool,
     start: Tree,
     transcript: F,
     follows: &mut bool,
-) -> Result<Ended, AuditError>
+) -> Result<EndedCut, AuditError>
     ensures { (tree : List ℕ) → IsStart start tree →
-        IsAudit (AccountsBy J.allowed (J.begun by) J.closed) (IsFirstFaultBy J.allowed (J.begun by)) HasEnd
+        IsAudit (accounts_by cuts J.allowed (J.begun by) J.closed) (IsFirstFaultBy J.allowed (J.begun by))
         tree (F.remaining transcript) result }
 {
     match Reader::new(alloc, Tally::new(transcript)) {
         Ok(mut records) => {
-            let audited = audit_tree_by::<J, Tally<F>>(by, start, &mut records, follows);
+            let judged = judge_records::<J, Tally<F>>(by, cuts, start, &mut records, follows);
             drop(records);
-            audited
+            judged
         }
         Err(error) => {
             drop(start);
@@ -398,10 +377,47 @@ fn judge_by<J: Judges, F: Read + Drop>(
     }
 }
 
-/// Writes the final tree, if a file is named for it, and then says that the session is accepted.
+/// Audits the session of a reader that has read nothing yet.
+fn judge_records<J: Judges, R: Source>(
+    by: J::By,
+    cuts: bool,
+    start: Tree,
+    records: &mut Reader<R>,
+    follows: &mut bool,
+) -> Result<EndedCut, AuditError>
+    // Of whatever bytes its source is known to have.
+    ensures { (tree : List ℕ) → IsStart start tree → (known : Option (List ℕ)) →
+        ((bytes : List ℕ) → known ≡ Some bytes → IsNew bytes records.old) →
+        IsAudit (accounts_by cuts J.allowed (J.begun by) J.closed) (IsFirstFaultBy J.allowed (J.begun by))
+        tree known result }
+{
+    if cuts {
+        audit_cut_tree_by::<J, R>(by, start, records, follows)
+    } else {
+        uncut(audit_tree_by::<J, R>(by, start, records, follows))
+    }
+}
+
+/// The result of a complete session as that of one that may have been cut: each of its requests has its reply.
+fn uncut(audited: Result<Ended, AuditError>) -> Result<EndedCut, AuditError>
+    ensures { result ≡ uncut audited }
+{
+    match audited {
+        Ok(Ended { tree, requests }) => Ok(EndedCut {
+            tree,
+            requests,
+            unsettled: 0,
+            unanswered: 0,
+        }),
+        Err(error) => Err(error),
+    }
+}
+
+/// Writes the tree before the oldest unanswered request, if a file is named for it, and then says that the session is
+/// accepted, and how much of it was not judged. A complete session gets the same line with `--cut` as without.
 fn accept<'a, R: System, O: Write>(
     rt: &R,
-    ended: &Ended,
+    ended: &EndedCut,
     files: &AuditOptions<'a>,
     output: &mut O,
 ) -> Result<Ending, Failure<'a>>
@@ -409,20 +425,11 @@ fn accept<'a, R: System, O: Write>(
     ensures err { IfErr result IsUnwritten }
 {
     keep_end(rt, files, &ended.tree)?;
-    let counts = Counts {
-        judged: ended.requests,
-        unanswered: 0,
-        unjudged: 0,
-    };
-    say_accepted(counts, None, files, output)
+    say_accepted(counts_of(ended), files, output)
 }
 
 /// Writes the final tree of an accepted session, if a file is named for it.
-pub(crate) fn keep_end<'a, R: System>(
-    rt: &R,
-    files: &AuditOptions<'a>,
-    tree: &Tree,
-) -> Result<(), Failure<'a>>
+fn keep_end<'a, R: System>(rt: &R, files: &AuditOptions<'a>, tree: &Tree) -> Result<(), Failure<'a>>
     ensures { IfErr result IsUnwritten }
 {
     match files.out {

@@ -4,7 +4,7 @@ ghost use Rattle.sftp_files.specs.declared.messages.Ending.TheVariants as ending
 ghost use Rattle.sftp_files.specs.Failures.{IsUnwritten};
 
 use crate::auditing::{Finding, report_finding};
-use crate::cut_sessions::Counts;
+use crate::counts::Counts;
 use crate::totals::{End, Reason, Total, print_total};
 use sftp_audit::{AuditError, Auditor, Refusal};
 use sftp_commands::{

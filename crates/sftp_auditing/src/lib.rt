@@ -2,7 +2,7 @@
 #![tactic(auto)]
 
 mod auditing;
-mod cut_sessions;
+mod counts;
 mod explaining;
 mod going_on;
 mod newcomers;

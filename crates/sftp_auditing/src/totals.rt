@@ -3,7 +3,7 @@ ghost use Rattle.std.specs.Prelude.{◌≡◌, IfOk, IfErr};
 ghost use Rattle.sftp_files.specs.declared.messages.Ending.TheVariants as endings;
 ghost use Rattle.sftp_files.specs.Failures.{IsUnwritten};
 
-use crate::cut_sessions::Counts;
+use crate::counts::{Counts, put_counts};
 use sftp_commands::record_of_fault;
 use sftp_files::{Ending, Failure, print};
 use sftp_json::JsonLines;
@@ -157,11 +157,7 @@ fn word_of(end: End) -> &'static str {
 /// Writes what is to be said of an end.
 fn put_members<O: Write>(end: End, json: &mut JsonLines<'_, O>) {
     match end {
-        End::Accepted(counts) => {
-            json.number("requests", counts.judged);
-            json.number("unanswered", counts.unanswered as u64);
-            json.number("unjudged", counts.unjudged as u64);
-        }
+        End::Accepted(counts) => put_counts(counts, true, json),
         End::Stopped(record, _) => json.number("record", record),
         End::Malformed(error) => json.number("record", record_of_fault(error)),
         _ => {}

@@ -3,28 +3,24 @@ ghost use Rattle.std.specs.Prelude.{◌≡◌, IfOk, IfErr};
 ghost use Rattle.sftp_files.specs.declared.messages.Ending.TheVariants as endings;
 ghost use Rattle.sftp_files.specs.Failures.{IsUnwritten};
 
+use crate::counts::{Counts, put_counts};
 use sftp_audit::Refusal;
 use sftp_files::{Ending, Failure};
 use sftp_json::JsonLines;
 use sftp_verdicts::{object_of, parts_of_line, print_object, whole_lines};
 use std::io::Write;
 
-/// Prints the object of an accepted session, as the last step of a run. `cut` has, of a session that may have been cut,
-/// how many requests have no reply, and how many others were not judged.
+/// Prints the object of an accepted session, which may have been cut or not, as the last step of a run.
 pub(crate) fn print_accepted<'a, O: Write>(
-    requests: u64,
-    cut: Option<(u64, u64)>,
+    counts: Counts,
+    cuts: bool,
     output: &mut O,
 ) -> Result<Ending, Failure<'a>>
     ensures ok { IfOk result (λ ending. ending ≡ endings.Done) }
     ensures err { IfErr result IsUnwritten }
 {
     let mut json = object_of("accepted", output);
-    json.number("requests", requests);
-    if let Some((unanswered, unjudged)) = cut {
-        json.number("unanswered", unanswered);
-        json.number("unjudged", unjudged);
-    }
+    put_counts(counts, cuts, &mut json);
     print_object(json, Ending::Done)
 }
 

@@ -11,9 +11,9 @@ returns-clause-verdict g c = λ tree is.
     let Holds = λ (known : Option (List ℕ)) (result : Result Ending Failure).
     IfOk result (IsVerdictAsked c.args.files.now.profile c.args.files.now.cuts tree known) in
     let known = g.F.Read.remaining c.args.transcript in
-    elim c.match-judge_as_asked.branch [
+    elim c.match-judge_and_report.branch [
       | in_default-2 w ↦ subst (Holds known) (sym w.result-is) tt
       | in_default w ↦ subst (Holds known) (sym w.result-is)
-          (subst (λ (it : Option (List ℕ)). Holds it c.judge_as_asked.result)
-          c.in_ok-bounded.ensures (c.judge_as_asked.ensures.verdict tree is))
+          (subst (λ (it : Option (List ℕ)). Holds it c.judge_and_report.result)
+          c.in_ok-bounded.ensures (c.judge_and_report.ensures.verdict tree is))
     ]

@@ -1,13 +1,10 @@
 -- The reader has read nothing yet, so the audit speaks of all bytes of the transcript.
 use Rattle.std.proofs.Common.{ap}
 use Rattle.sftp_verdicts.proofs.Fresh.{is_new}
-use Rattle.sftp_auditing.proofs.AuditLaws.{audited}
 use Rattle.sftp_auditing.proofs.auditing.judge_by.Goals as goal
 
 pub returns-in-Ok : goal.returns-in-Ok
 returns-in-Ok g c = λ tree is.
     let known = g.F.Read.remaining c.args.transcript in
-    audited g.J.Judges.allowed (g.J.Judges.begun c.args.by) g.J.Judges.closed c.args.start tree is known
-    c.in-Ok.records (is_new known _ _ _ c.in-Ok.records (ap g.F.Read.remaining c.new.ensures.inner) c.in-Ok.ensures.ok)
-    c.audit_tree_by-audited.result c.audit_tree_by-audited.ensures.accepted c.audit_tree_by-audited.ensures.refused
-    c.audit_tree_by-audited.ensures.first
+    c.judge_records-judged.ensures tree is known
+    (is_new known _ _ _ c.in-Ok.records (ap g.F.Read.remaining c.new.ensures.inner) c.in-Ok.ensures.ok)
