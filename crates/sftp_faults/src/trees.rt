@@ -58,8 +58,8 @@ struct Contents {
     length: u64,
 }
 
-/// The field in which a tree file has this fault, which is its first one. No more of the file is held than a window, and
-/// of each entry before the fault whether it is the first name of a file. `None` if memory runs out or the source fails.
+/// The field in which a tree file has this fault, which is its first one. Held of the file are a window, and of each
+/// entry before the fault whether it is the first name of a file. `None` if memory runs out or the source fails.
 pub fn spot_in_tree<R: Source>(alloc: Global, source: R, error: TreeError) -> Option<Spot>
 where
     R: Drop,
