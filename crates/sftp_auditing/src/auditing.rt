@@ -7,7 +7,8 @@ ghost use Rattle.sftp_files.specs.Failures.{IsUnwritten};
 ghost use Rattle.sftp_files.specs.Failures.{failure_status};
 ghost use Rattle.sftp_verdicts.specs.Verdicts.{IsAuditStatus};
 ghost use Rattle.sftp_auditing.specs.Audits.{accounts_by, uncut};
-ghost use Rattle.sftp_auditing.specs.Audits.{IsOutcome, IsAudit, IsResultAsked, IsReportOf, IsReportOfError, IsVerdictAsked};
+ghost use Rattle.sftp_auditing.specs.Audits.{IsOutcome, IsAudit, IsResultAsked, IsVerdictAsked};
+ghost use Rattle.sftp_auditing.specs.Audits.{IsReportOf, IsReportOfError};
 
 use crate::counts::{counts_of, say_accepted};
 use crate::explaining::explain;
