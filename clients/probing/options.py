@@ -19,7 +19,7 @@ ACCEPTED, DIFFERENCES, BAD_USAGE, NOT_STARTED, NOT_FINISHED = range(5)
 # tenth seed as many as OpenSSH's sftp.
 ONE, MANY, MOST = 1, 16, 64
 
-# By default, each so many sessions one has a third of its requests sent in pieces.
+# By default, one of so many sessions has a fourth of its requests sent in pieces.
 PIECES = 5
 
 # The most servers side by side: each has a folder and a thread of its own from the start.
@@ -166,7 +166,7 @@ def add_of_plans(add):
     add("--in-flight", metavar="K", type=flying,
         help=f"the most requests without a reply ({ONE} for odd seeds, {MANY} for even ones, {MOST} for each tenth)")
     add("--pieces", metavar="N", type=count, default=PIECES,
-        help=f"in each how many sessions a third of the requests goes in pieces ({PIECES}); 0: in none")
+        help=f"of how many sessions one has a fourth of its requests sent in pieces ({PIECES}); 0: in none")
     add("--skip", metavar="NAME,...", type=names_among(SKIPPED), default=[], help="what to leave out of the plans")
     add("--also", metavar="NAME,...", type=names_among(features.BEYOND), default=[],
         help="what to plan besides: large, long-target, for which a server has room, and the tree may not")

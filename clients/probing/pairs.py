@@ -3,13 +3,10 @@ exchange. Each pair has a file or a directory of its own, and stands where no re
 from probing.plans import Content
 from probing.transfers import APPEND, CREAT, READ, TRUNC, WRITE, listing
 
-# How often a scene has each pair.
-TIMES = 2
-
 
 def side_by_side(p):
     """Each pair whose feature is not left out, in any order."""
-    pairs = [pair for pair, feature in PAIRS.items() if feature not in p.skip] * TIMES
+    pairs = [pair for pair, feature in PAIRS.items() if feature not in p.skip]
     for pair in p.random.sample(pairs, len(pairs)):
         yield from pair(p)
 

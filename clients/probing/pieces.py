@@ -6,10 +6,11 @@ import termios
 import time
 
 # Of so many packets one is cut, by its id; and the bytes that the first pieces have.
-EACH, COUNTS = 3, (1, 2, 3, 4, 5, 7, 9, 13)
+EACH, COUNTS = 4, (1, 2, 3, 4, 5, 7, 9, 13)
 
-# For how many seconds nobody waits any longer, and how long it is until the next look.
-PATIENCE, GLANCE = 0.02, 0.0005
+# After how many seconds nobody waits any longer. Most servers take a piece at once: so many looks come first, so many
+# seconds apart, and then replies are taken, too.
+PATIENCE, LOOKS, GLANCE = 0.02, 5, 0.0001
 
 
 class Cuts:
@@ -29,9 +30,12 @@ class Cuts:
         self.deadline = time.monotonic() + PATIENCE
 
     def is_held(self, pipe):
-        """Whether the second piece has to wait."""
-        if self.deadline is not None and (time.monotonic() >= self.deadline or not waiting(pipe)):
-            self.deadline = None
+        """Whether the second piece still has to wait, after a few looks."""
+        for _ in range(LOOKS if self.deadline is not None else 0):
+            if time.monotonic() >= self.deadline or not waiting(pipe):
+                self.deadline = None
+                break
+            time.sleep(GLANCE)
         return self.deadline is not None
 
 
