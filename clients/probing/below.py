@@ -296,11 +296,11 @@ class Worker(limits.Worker):
         super().__init__(folder, server, auditor, timeout)
         self.place, self.seen = place, os.path.join(folder, "seen.transcript")
 
-    def play(self, tree, steps, in_flight, seed, stop, timeout=None):
+    def play(self, tree, steps, in_flight, seed, stop, timeout=None, cut=None):
         base = Below(self.place.new(), tree)
         try:
             self.make(base.own, stop)
-            session = sessions.play(self.server, "", base.steps(steps), in_flight, timeout or self.timeout, stop)
+            session = sessions.play(self.server, "", base.steps(steps), in_flight, timeout or self.timeout, stop, cut)
         finally:
             left = Clearing(base.own).run(self.server, self.timeout, stop)
             for line in left.split("\n") if left else ():

@@ -5,6 +5,7 @@ A fault of the server that no reply shows by itself, such as a lost WRITE, is ma
 something else: an empty WRITE is answered with OK, and changes nothing.
 """
 import os
+import posixpath
 import struct
 
 import sftp3
@@ -88,6 +89,29 @@ class Fault(planted.Bug):
 def status(packet, code):
     """A STATUS with this code, in place of a reply."""
     return sftp3.packet(sftp3.STATUS, packet[5:9] + code + bytes(8))
+
+
+# Sizes that no fault looks at: those that no file can have.
+FAR = 2 ** 31
+
+
+def clean(path):
+    """A path with one spelling."""
+    return posixpath.normpath(b"/" + path.lstrip(b"/"))
+
+
+def is_path(asked, place):
+    """Whether a field of a request is a path, or the target of a link."""
+    return isinstance(asked.fields[place], bytes) and asked.name not in ("WRITE", "EXTENDED") and asked.handle() is None
+
+
+def refused(asked):
+    """A request in place of this one that fails, and does nothing."""
+    return [sftp3.Request(asked.number, "MKDIR", [b"/", {}])]
+
+
+def sets_size(asked):
+    return asked.name in ("SETSTAT", "FSETSTAT") and asked.fields[1].get("size", FAR) < FAR
 
 
 def data_of(packet):

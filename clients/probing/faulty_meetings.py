@@ -3,37 +3,16 @@ a request has to leave as it is."""
 import posixpath
 
 import sftp3
-from probing.faulty import END, FAILED, Fault, InFlight, Overtaking, names_of, status, with_names
+from probing.faulty import (
+    END, FAILED, FAR, Fault, InFlight, Listings, clean, is_path, names_of, refused, sets_size, status,
+    with_names)
 
 READ, WRITE, APPEND, CREAT, TRUNC, EXCL = (
     sftp3.READ, sftp3.WRITE, sftp3.APPEND, sftp3.CREAT, sftp3.TRUNC, sftp3.EXCL)
 
-# Sizes that no fault looks at: those that no file can have.
-FAR = 2 ** 31
-
-
-def clean(path):
-    """A path with one spelling."""
-    return posixpath.normpath(b"/" + path.lstrip(b"/"))
-
-
-def refused(asked):
-    """A request in place of this one that fails, and does nothing."""
-    return [sftp3.Request(asked.number, "MKDIR", [b"/", {}])]
-
-
-def is_path(asked, place):
-    """Whether a field of a request is a path, or the target of a link."""
-    return isinstance(asked.fields[place], bytes) and asked.name not in ("WRITE", "EXTENDED") and asked.handle() is None
-
-
 def attributes_of(packet):
     """The attributes in a reply, or None."""
     return sftp3.Fields(packet[9:]).attributes() if packet[4] == sftp3.ATTRS else None
-
-
-def sets_size(asked):
-    return asked.name in ("SETSTAT", "FSETSTAT") and asked.fields[1].get("size", FAR) < FAR
 
 
 class Meets(Fault):
@@ -591,6 +570,102 @@ class link_again_fails(Refuses):
         return asked.name == "SYMLINK" and clean(asked.fields[1]) in self.gone
 
 
+class Further(Fault):
+    """Knows the names that HARDLINK made."""
+
+    def __init__(self):
+        super().__init__()
+        self.made = set()
+
+    def ask(self, asked):
+        if asked.name == "HARDLINK":
+            self.made.add(clean(asked.fields[1]))
+        if asked.name == "OPEN" and clean(asked.fields[0]) in self.made:
+            return self.of_further(asked)
+        return [asked]
+
+    def of_further(self, asked):
+        """The requests in place of an OPEN of such a name."""
+        return [asked]
+
+
+class further_name_emptied_apart(Further):
+    """OPEN with TRUNC of a name that HARDLINK made makes a new file there."""
+
+    def of_further(self, asked):
+        if not asked.fields[1] & TRUNC or not asked.fields[1] & CREAT or asked.fields[1] & EXCL:
+            return [asked]
+        self.made.discard(clean(asked.fields[0]))
+        return [self.another("REMOVE", asked.fields[0]), asked]
+
+
+class removed_is_listed_while_open(Meets, Listings):
+    """A file that was removed while it was open is listed until it is closed."""
+
+    def __init__(self):
+        super().__init__()
+        self.gone = {}
+
+    def ask(self, asked):
+        if asked.name == "REMOVE":
+            self.gone.update((number, clean(asked.fields[0])) for number in self.numbers_at(asked.fields[0]))
+        return [asked]
+
+    def listed(self, asked, before, items):
+        names, top = {item[0] for item in items}, clean(self.path(asked) or b"/")
+        gone = {self.gone.get(opener.number, b"/") for opener in self.openers()}
+        still = {posixpath.basename(path) for path in gone if posixpath.dirname(path) == top} - names - {b""}
+        return items + [(name, name, items[0][2]) for name in still if not before]
+
+
+class sets_what_is_there(Fault):
+    """MKDIR of what is there fails, and sets its permissions."""
+
+    def ask(self, asked):
+        if asked.name == "MKDIR" and "permissions" in asked.fields[1]:
+            return [self.another("SETSTAT", asked.fields[0], {"permissions": asked.fields[1]["permissions"]}), asked]
+        return [asked]
+
+
+class renamed_directory_is_reset(Fault):
+    """RENAME of a directory that the session made gives it the permissions 0755."""
+
+    def __init__(self):
+        super().__init__()
+        self.made = set()
+
+    def ask(self, asked):
+        if asked.name == "MKDIR":
+            self.made.add(clean(asked.fields[0]))
+        if asked.name == "RENAME" and clean(asked.fields[0]) in self.made:
+            return [self.another("SETSTAT", asked.fields[0], {"permissions": 0o755}), asked]
+        return [asked]
+
+
+class kind_cannot_be_made(Refuses):
+    """MKDIR with permissions that say that it is a directory (040000) fails."""
+
+    def refuses(self, asked):
+        return asked.name == "MKDIR" and asked.fields[1].get("permissions", 0) & 0o170000 == 0o40000
+
+
+class large_owner_cut(Fault):
+    """The numbers of users and groups that are set are taken modulo 65,536."""
+
+    def ask(self, asked):
+        given = asked.fields[1] if asked.name in ("SETSTAT", "FSETSTAT") else {}
+        if "owner" in given:
+            given["owner"] = tuple(number % 65536 for number in given["owner"])
+        return [asked]
+
+
+class id_of_zero_fails(Refuses):
+    """A request with the id 0 fails."""
+
+    def refuses(self, asked):
+        return asked.number == 0
+
+
 class large_id_fails(Refuses):
     """A request with an id of 2^31 or more fails."""
 
@@ -606,23 +681,6 @@ class failure_in_much_flight(InFlight):
         return [status(reply, FAILED) if done and count >= 40 else reply]
 
 
-class cut_overtakes_write(Overtaking):
-    """A SETSTAT of a size is done before a WRITE of the file that came just before it."""
-
-    def overtakes(self, first, second):
-        opener = self.opened.get(first.handle()) if first.name == "WRITE" else None
-        return opener is not None and second.name == "SETSTAT" and sets_size(second) \
-            and clean(opener.fields[0]) == clean(second.fields[0])
-
-
-class write_overtakes_cut(Overtaking):
-    """A WRITE is done before an FSETSTAT of a size that came just before it through the handle."""
-
-    def overtakes(self, first, second):
-        return first.name == "FSETSTAT" and sets_size(first) and second.name == "WRITE" \
-            and first.handle() == second.handle()
-
-
 FAULTS = [fault for fault in list(globals().values())
           if isinstance(fault, type) and issubclass(fault, Fault) and fault not in (
-              Fault, InFlight, Overtaking, Meets, Refuses, Removed, Targets)]
+              Fault, Further, InFlight, Listings, Meets, Refuses, Removed, Targets)]

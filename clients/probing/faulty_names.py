@@ -1,6 +1,8 @@
 """Faults of servers in names: lost and doubled ones in listings, changed ones, and paths that are not found."""
+import re
+
 import sftp3
-from probing.faulty import FAILED, Fault, Listings, Statuses, status
+from probing.faulty import FAILED, Fault, Listings, Statuses, is_path, status
 
 
 class name_lost_by_count(Listings):
@@ -263,5 +265,70 @@ class long_name_fails(Fault):
         return [asked]
 
 
+class Spelled(Fault):
+    """Takes the names in paths for others."""
+
+    def ask(self, asked):
+        for place in range(len(asked.fields)):
+            if is_path(asked, place) and not (asked.name == "SYMLINK" and place == 0):
+                parts = asked.fields[place].split(b"/")
+                asked.fields[place] = b"/".join(it if it in (b"", b".", b"..") else self.name(it) for it in parts)
+        return [asked]
+
+    def name(self, name):
+        return name
+
+
+class percent_decoded(Spelled):
+    """`%` with two hexadecimal digits in a name is the byte of that number."""
+
+    def name(self, name):
+        return re.sub(rb"%([2-7][0-9A-Fa-f])", lambda found: bytes([int(found[1], 16)]).replace(b"/", found[0]), name)
+
+
+class plus_is_blank(Spelled):
+    """A plus in a name is a blank."""
+
+    def name(self, name):
+        return name.replace(b"+", b" ")
+
+
+class angles_lost(Spelled):
+    """`<` and `>` in names become `_`."""
+
+    def name(self, name):
+        return re.sub(rb"[<>]", b"_", name)
+
+
+class signs_lost(Spelled):
+    """The signs ``= , @ ^ ! ` { } ( )`` in names become `_`."""
+
+    def name(self, name):
+        return re.sub(rb"[=,@^!`{}()]", b"_", name)
+
+
+class colon_ends_name(Spelled):
+    """A colon inside a name ends it, as where it begins the name of a stream."""
+
+    def name(self, name):
+        before, _, behind = name.partition(b":")
+        return before if before and behind else name
+
+
+class dot_at_end_lost(Spelled):
+    """Dots at the end of a name are left out."""
+
+    def name(self, name):
+        return name.rstrip(b".") or name
+
+
+class carriage_return_lost(Spelled):
+    """A carriage return in a name is left out."""
+
+    def name(self, name):
+        return name.replace(b"\r", b"") or name
+
+
 FAULTS = [fault for fault in list(globals().values())
-          if isinstance(fault, type) and issubclass(fault, Fault) and fault not in (Fault, Links, Listings, Statuses)]
+          if isinstance(fault, type) and issubclass(fault, Fault)
+          and fault not in (Fault, Links, Listings, Spelled, Statuses)]

@@ -204,6 +204,47 @@ class write_lost_in_flight(Writes):
         return self.together > 3
 
 
+class zeros_lost(Writes):
+    """A WRITE of 512 bytes or more, all of them 0, is lost."""
+
+    def loses(self, _asked, _offset, data):
+        return len(data) >= 512 and not any(data)
+
+
+class zeros_at_end_lost(Writes):
+    """Of a WRITE that ends in 16 bytes of 0 or more, those at its end are not written."""
+
+    def changed_write(self, offset, data):
+        return offset, data.rstrip(b"\0") if data.endswith(bytes(16)) else data
+
+
+class write_alike_lost(Writes):
+    """A WRITE of 100 bytes or more is lost if the one before it through the handle had the same bytes."""
+
+    def __init__(self):
+        super().__init__()
+        self.last = {}
+
+    def loses(self, asked, _offset, data):
+        before = self.last.get(asked.handle())
+        self.last[asked.handle()] = data
+        return len(data) >= 100 and data == before
+
+
+class write_again_lost(Writes):
+    """A WRITE of 100 bytes or more is lost if an earlier one through the handle had the same bytes and offset."""
+
+    def __init__(self):
+        super().__init__()
+        self.done = set()
+
+    def loses(self, asked, offset, data):
+        one = self.opener_number(asked), offset, data
+        known = one in self.done
+        self.done |= {one} if len(data) >= 100 else set()
+        return known
+
+
 class append_at_offset(Fault):
     """OPEN passes over APPEND: a WRITE goes to its offset."""
 

@@ -89,11 +89,11 @@ class Worker:
         with open(name, "wb") as file:
             file.write(self.data)
 
-    def play(self, tree, steps, in_flight, seed, stop, timeout=None):
+    def play(self, tree, steps, in_flight, seed, stop, timeout=None, cut=None):
         """The session of these steps, and what is judged of it. Raises Stopped once `stop` is set, unless there is a
         difference by then."""
         self.write_tree(tree)
-        session = sessions.play(self.server, self.tree_file, steps, in_flight, timeout or self.timeout, stop)
+        session = sessions.play(self.server, self.tree_file, steps, in_flight, timeout or self.timeout, stop, cut)
         return session, verdicts.judge(self.auditor, self.kept_tree, session, seed, stop)
 
 

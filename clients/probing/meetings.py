@@ -94,6 +94,88 @@ def leaving(p):
     yield from download(p, path, 5000)
 
 
+def emptying_further(p):
+    """A file that is emptied and written by one of its two names, and looked at by the other."""
+    path, other = p.blank(b"two"), p.blank(b"two.other")
+    yield from upload(p, path, Content(p.random, 5000))
+    yield p.ask("HARDLINK", path, other)
+    for name, seen in ((other, path), (path, other), (other, path)):
+        content = Content(p.random, p.random.choice([0, 10, 700]))
+        yield from upload(p, name, content)
+        yield from download(p, seen, content.size)
+
+
+def listing_removed(p):
+    """No listing has a file that was removed while it was open, or an old name of one that is open."""
+    top = p.blank(b"left")
+    path, other, third = top + b"/one", top + b"/other", top + b"/third"
+    yield p.ask("MKDIR", top, {})
+    for name in (path, other, third):
+        yield from upload(p, name, Content(p.random, 300))
+    steps = [p.ask("OPEN", name, flags, {}) for name, flags in ((path, READ), (other, READ | WRITE), (third, READ))]
+    yield from steps
+    yield p.ask("REMOVE", path)
+    yield from listing(p, top, 2)
+    yield p.ask("POSIX-RENAME", other, third)
+    yield from listing(p, top, 1)
+    yield p.ask("READ", steps[2].opened(), 0, 400)
+    for step in p.random.sample(steps, 3):
+        yield p.ask("CLOSE", step.opened())
+    yield from listing(p, top, 1)
+
+
+def setting_folders(p):
+    """A directory with permissions of its own gets another name; MKDIR where something is sets nothing of it."""
+    folder, new = p.blank(b"own"), p.blank(b"own.new")
+    yield p.ask("MKDIR", folder, {})
+    yield p.ask("SETSTAT", folder, {"permissions": p.random.choice([0o700, 0o711, 0o750])})
+    yield p.ask("RENAME", folder, new)
+    yield p.ask("STAT", new)
+    yield p.ask("POSIX-RENAME", new, folder)
+    yield p.ask("STAT", folder)
+    file = folder + b"/file"
+    yield from upload(p, file, Content(p.random, 100))
+    for path in (folder, file):
+        yield p.ask("MKDIR", path, {"permissions": p.random.choice([0o777, 0o40775])}, cause="Exists")
+        yield p.ask("STAT", path)
+    yield p.ask("MKDIR", new, {"permissions": 0o40755})
+    yield p.ask("STAT", new)
+
+
+def giving_far(p):
+    """A file and a directory whose users and groups have numbers of more than 16 bits, by path and by handle."""
+    folder, path = p.blank(b"given"), p.blank(b"given.file")
+    yield p.ask("MKDIR", folder, {})
+    yield from upload(p, path, Content(p.random, 100))
+    yield p.ask("SETSTAT", folder, {"owner": (70_000, 131_077)})
+    yield p.ask("LSTAT", folder)
+    step = p.ask("OPEN", path, READ | WRITE, {})
+    yield step
+    yield p.ask("FSETSTAT", step.opened(), {"owner": (1_000_001, 65_536)})
+    yield p.ask("FSTAT", step.opened())
+    yield p.ask("CLOSE", step.opened())
+
+
+def writing_alike(p):
+    """Blocks of zeros over other bytes and at the end, and WRITEs of bytes that were written before."""
+    path, content = p.blank(b"alike"), Content(p.random, 60_000)
+    yield from upload(p, path, content)
+    step = p.ask("OPEN", path, READ | WRITE, {})
+    yield step
+    for offset, count in ((p.random.choice([4 * KIB, 8 * KIB]), 4 * KIB), (39_999, 1000), (20_000, 32 * KIB)):
+        yield p.ask("WRITE", step.opened(), offset, bytes(count))
+        yield p.ask("READ", step.opened(), offset - 10, count + 20)
+    data, other = content.at(1, 3000), content.at(2, 2000)
+    for offset, written in ((10_000, data), (13_000, data), (10_000, other), (10_000, data), (10_500, data)):
+        yield p.ask("WRITE", step.opened(), offset, written)
+    yield p.ask("READ", step.opened(), 9990, 6100)
+    yield p.ask("WRITE", step.opened(), 60_000, b"end" + bytes(500))
+    yield p.ask("FSTAT", step.opened())
+    yield p.ask("WRITE", step.opened(), 60_503, bytes(4 * KIB))
+    yield p.ask("READ", step.opened(), 59_990, 8 * KIB)
+    yield p.ask("CLOSE", step.opened())
+
+
 def setting_open(p):
     """What is set of a file that is open, by its path and through a handle that is open to read; two things at once;
     a READ of more bytes than any server gives; and the file loses a name that it got while it was open."""

@@ -19,6 +19,9 @@ ACCEPTED, DIFFERENCES, BAD_USAGE, NOT_STARTED, NOT_FINISHED = range(5)
 # tenth seed as many as OpenSSH's sftp.
 ONE, MANY, MOST = 1, 16, 64
 
+# By default, one of so many sessions has a fourth of its requests sent in pieces.
+PIECES = 5
+
 # The most servers side by side: each has a folder and a thread of its own from the start.
 MOST_JOBS = 1000
 
@@ -63,6 +66,11 @@ def positive(text):
     if number < 1:
         raise ValueError(text)
     return number
+
+
+def count(text):
+    """A number, also 0."""
+    return 0 if text == "0" else positive(text)
 
 
 def seconds(text):
@@ -124,6 +132,11 @@ def in_flight(given, number):
     return ONE if number % 2 == 1 else MOST if number % 10 == 0 else MANY
 
 
+def cut(given, number):
+    """The number that says which requests of this session go in pieces, or None if they all go whole."""
+    return number if given.pieces and number % given.pieces == given.pieces - 1 else None
+
+
 def times(given):
     """How many times a recorded session is played: often, if replies may race."""
     return 1 if given.in_flight == 1 else shrinking.TRIES + 1
@@ -152,6 +165,8 @@ def add_of_plans(add):
     add("--requests", metavar="N", type=positive, default=60, help="requests of small scenes in a session (60)")
     add("--in-flight", metavar="K", type=flying,
         help=f"the most requests without a reply ({ONE} for odd seeds, {MANY} for even ones, {MOST} for each tenth)")
+    add("--pieces", metavar="N", type=count, default=PIECES,
+        help=f"of how many sessions one has a fourth of its requests sent in pieces ({PIECES}); 0: in none")
     add("--skip", metavar="NAME,...", type=names_among(SKIPPED), default=[], help="what to leave out of the plans")
     add("--also", metavar="NAME,...", type=names_among(features.BEYOND), default=[],
         help="what to plan besides: large, long-target, for which a server has room, and the tree may not")

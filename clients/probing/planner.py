@@ -13,7 +13,7 @@ import itertools
 import random
 
 import sftp3
-from probing import features, meetings, refusals, scenes, transfers
+from probing import features, meetings, pairs, refusals, scenes, transfers
 from probing.transfers import listing
 from probing.model import DIRECTORY, FILE, LINK, Model, apply
 from probing.plans import Handle, Step
@@ -106,6 +106,12 @@ PERIODS = [
     ("crowds", meetings.listing_often, 11, 8),
     ("links", meetings.chaining_links, 7, 6),
     ("deep", meetings.long_paths, 7, 1),
+    ("transfers", meetings.emptying_further, 5, 1),
+    ("transfers", meetings.listing_removed, 5, 2),
+    ("transfers", meetings.setting_folders, 5, 0),
+    ("transfers", meetings.giving_far, 7, 3),
+    ("transfers", meetings.writing_alike, 7, 5),
+    ("transfers", pairs.side_by_side, 3, 0),
 ]
 
 
@@ -256,13 +262,13 @@ class Planner:
         return self.random.choice([0, size, size, min(self.offset(), size)])
 
 
-# Where ids begin with each tenth seed: they are no numbers of 31 bits.
-LARGE_IDS = 2 ** 31
+# Where ids begin, by the last digit of the seed, with others than 1: where they are no numbers of 31 bits, and at 0.
+FIRST_IDS = {5: 2 ** 31, 3: 0, 8: 0}
 
 
 def plan(seed, tree, count, skip=()):
     """The steps of a session: so many of small scenes, besides those of large ones and of the end."""
-    numbers = itertools.count(LARGE_IDS if seed % 10 == 5 else 1)
+    numbers = itertools.count(FIRST_IDS.get(seed % 10, 1))
     small, large = Planner(seed, tree, skip, numbers), Planner(f"large {seed}", tree, skip, numbers)
     between, steps = large.large(large_scenes(seed, large.random)), []
     for step in small.small(count):

@@ -24,6 +24,9 @@ class Bug:
     def opening(self, packet):
         return packet
 
+    def begun(self, left):
+        """Sees the bytes of a request that came without its end, or none."""
+
     def requests(self, packets):
         """What the server gets in place of these requests, which came together."""
         for packet in packets:
@@ -240,8 +243,8 @@ def packets_of(data):
     return found, data
 
 
-def pass_on(source, target, change):
-    """Passes packets on until the stream ends, those that come together at once."""
+def pass_on(source, target, change, see=lambda left: None):
+    """Passes packets on until the stream ends, those that come together at once. `see` gets what is no whole packet."""
     left = b""
     piece = os.read(source, 1 << 18)
     while piece:
@@ -250,6 +253,7 @@ def pass_on(source, target, change):
             view = memoryview(packet)
             while view:
                 view = view[os.write(target, view):]
+        see(left)
         piece = os.read(source, 1 << 18)
     os.close(target)
 
@@ -264,7 +268,7 @@ def run(bug, command):
         first = [packet for packet in packets if packet[4] == sftp3.INIT]
         return first + list(bug.requests([packet for packet in packets if packet[4] != sftp3.INIT]))
 
-    threading.Thread(target=pass_on, args=(0, asked, requests), daemon=True).start()
+    threading.Thread(target=pass_on, args=(0, asked, requests, bug.begun), daemon=True).start()
     pass_on(server.stdout.fileno(), os.dup(1), bug.replies)
     os._exit(server.wait())
 

@@ -26,6 +26,7 @@ def keep_server(place, difference):
     files.write(os.path.join(place, "standard-error.txt"), session.errors)
     files.write_text(os.path.join(place, "server.txt"),
                      f"in flight: {session.in_flight}\nseed: {difference.seed}\n"
+                     f"in pieces: {'no' if session.cut is None else 'yes'}\n"
                      f"session: {session.end or 'each request had its reply'}\nended: {session.ending()}\n")
     whole = os.path.join(place, "whole.transcript")
     if session.records != difference.records:

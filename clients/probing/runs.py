@@ -35,7 +35,7 @@ class Plan:
 
     def __init__(self, given, seed, steps, tree, stop):
         self.seed, self.steps, self.tree, self.stop = seed, steps, tree, stop
-        self.in_flight = options.in_flight(given, seed)
+        self.in_flight, self.cut = options.in_flight(given, seed), options.cut(given, seed)
         self.outcome = Outcome(limits.Played(seed, self.in_flight, 0, 0, 0))
         self.seen, self.endings = set(), []
 
@@ -65,11 +65,11 @@ class Plan:
 
     def play_once(self, worker):
         """Where the server ended with several requests unanswered, they are asked one by one, to see which it is."""
-        session, judged = worker.play(self.tree, self.steps, self.in_flight, self.seed, self.stop)
+        session, judged = worker.play(self.tree, self.steps, self.in_flight, self.seed, self.stop, cut=self.cut)
         self.outcome.version = document.version(session.records)
         if session.ended and session.unanswered > 1:
             try:
-                alone = worker.play(self.tree, self.steps, options.ONE, self.seed, self.stop)
+                alone = worker.play(self.tree, self.steps, options.ONE, self.seed, self.stop, cut=self.cut)
             except sessions.Stopped:
                 return session, judged
             if alone[0].ended:

@@ -6,6 +6,7 @@ Those of a session are known by a variable, or by the process group or session o
 that took care not to be known end with the run, unless they may be what --reset started, which goes on.
 """
 import ctypes
+import itertools
 import os
 import selectors
 import shlex
@@ -18,6 +19,7 @@ from contextlib import suppress
 
 import sftp3
 from paging import packets
+from probing import pieces
 from recording import greetings, temporary
 
 # Seconds for a server to end after its input did, and after it left a request unanswered.
@@ -206,28 +208,37 @@ class Arrived:
         return bytes(memoryview(self.data)[self.place - count:self.place])
 
 
-class Streams:
-    """Sends packets to a server that runs, and takes those that come. `wrong` says of a packet that is too long how
-    long it is."""
+# What stands between two pieces of a packet.
+BREAK = memoryview(b"")
 
-    def __init__(self, running):
+# How many packets that leave together are written at once, so that they come together.
+TOGETHER = 64
+
+
+class Streams:
+    """Sends packets to a server that runs, and takes those that come. `cuts` says which go in pieces; without it none
+    does. `wrong` says of a packet that is too long how long it is."""
+
+    def __init__(self, running, cuts=None):
         self.running, self.leaving, self.arrived, self.wrong = running, deque(), Arrived(), None
+        self.cuts = cuts
         self.selector = selectors.DefaultSelector()
         for stream in (running.process.stdout, running.process.stderr):
             self.selector.register(stream, selectors.EVENT_READ)
 
     def give(self, packet):
-        self.leaving.append(memoryview(packet))
+        count = self.cuts.count(packet) if self.cuts else 0
+        self.leaving += [memoryview(packet)[:count], BREAK] * bool(count) + [memoryview(packet)[count:]]
 
     def exchange(self, seconds):
         """Writes what can be written, and reads what is there; waits until one of both can be done, at most so long.
         Gives True if something came, False if nothing did, and None if nothing more will, or too much is there."""
-        if self.leaving:
-            self.send()
-        blocked = bool(self.leaving)
+        held = bool(self.leaving) and self.send()
+        blocked = bool(self.leaving) and not held
         if blocked:
             self.selector.register(self.running.process.stdin, selectors.EVENT_WRITE)
-        ready = [key.fileobj for key, _ in self.selector.select(max(0, min(seconds, AT_ONCE)))]
+        seconds = max(0, min(seconds, pieces.GLANCE if held else AT_ONCE))
+        ready = [key.fileobj for key, _ in self.selector.select(seconds)]
         if blocked:
             self.selector.unregister(self.running.process.stdin)
         if self.running.process.stderr in ready and not self.running.listen():
@@ -237,18 +248,33 @@ class Streams:
         return False
 
     def send(self):
+        """Writes what can be written. Says whether the next piece has to wait until the server has taken the last."""
+        pipe = self.running.process.stdin.fileno()
         try:
             while self.leaving:
-                count = os.write(self.running.process.stdin.fileno(), self.leaving[0])
-                if count < len(self.leaving[0]):
-                    self.leaving[0] = self.leaving[0][count:]
-                    return
-                self.leaving.popleft()
+                if self.cuts and self.cuts.is_held(pipe):
+                    return True
+                self.wrote(os.writev(pipe, self.together()))
         except BlockingIOError:
             pass
         except OSError:
             # what the server wrote before it ended is read first
             self.leaving.clear()
+        return False
+
+    def together(self):
+        """What goes next, up to the end of a piece that goes alone."""
+        return list(itertools.takewhile(lambda it: it is not BREAK, itertools.islice(self.leaving, TOGETHER)))
+
+    def wrote(self, count):
+        """Takes away so many bytes that were written, and the break behind them."""
+        while self.leaving and self.leaving[0] is not BREAK and count >= len(self.leaving[0]):
+            count -= len(self.leaving.popleft())
+        if self.leaving and self.leaving[0] is BREAK:
+            self.leaving.popleft()
+            self.cuts.begin()
+        elif self.leaving:
+            self.leaving[0] = self.leaving[0][count:]
 
     def receive(self, data):
         """Takes what came, and says whether more may come and is wanted."""

@@ -6,7 +6,7 @@ from dataclasses import dataclass, field
 from typing import List, Optional, Tuple
 
 import sftp3
-from probing import plans, servers
+from probing import pieces, plans, servers
 from probing.servers import NotStarted, Server, Stopped  # noqa: F401 (callers have them from here)
 from walking import bounds
 
@@ -37,6 +37,8 @@ class Session:
 
     # The most requests without a reply.
     in_flight: int = 1
+    # Where requests went in pieces, the number that says which; else None.
+    cut: Optional[int] = None
     # Pairs of `b"C"` or `b"S"` and a packet, in the order in which they passed. The last may not be whole.
     records: List[Tuple[bytes, bytes]] = field(default_factory=list)
     # For each record the seconds from the start of the server: of a request when it went to the pipe, of a reply when
@@ -93,15 +95,15 @@ class Player:
     """Sends the steps, with up to `in_flight` of them unanswered, and records all that passes. Extensions that VERSION
     does not announce are left out. `stop` is an event that ends it."""
 
-    def __init__(self, running, steps, in_flight, timeout, stop):
+    def __init__(self, running, steps, in_flight, timeout, stop, cut=None):
         self.running, self.in_flight, self.timeout, self.stop = running, in_flight, timeout, stop
         self.waiting = deque(steps)
-        self.session = Session(in_flight)
+        self.session = Session(in_flight, cut)
         self.unanswered, self.handles = {}, {}
         self.asked = self.unwanted = 0
         self.most = REPLIES + sum(min(it.fields[2], servers.LARGEST) for it in self.waiting if it.name == "READ")
         self.left = self.most
-        self.streams = servers.Streams(running)
+        self.streams = servers.Streams(running, None if cut is None else pieces.Cuts(cut))
         # when a reply came that was waited for, or what is waited for was asked
         self.heard, self.patience = time.monotonic(), timeout * OPENING
 
@@ -239,10 +241,10 @@ class Player:
                 "the server closed its output"
 
 
-def play(server, tree_file, steps, in_flight, timeout=TIMEOUT, stop=None):
-    """The session of these steps."""
+def play(server, tree_file, steps, in_flight, timeout=TIMEOUT, stop=None, cut=None):
+    """The session of these steps. `cut` is a number that says which of them go in pieces, or None."""
     running = server.start(tree_file, timeout * OPENING, stop)
-    player = Player(running, steps, in_flight, timeout, stop)
+    player = Player(running, steps, in_flight, timeout, stop, cut)
     why = None
     try:
         player.play()

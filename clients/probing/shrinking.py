@@ -123,7 +123,7 @@ class Shrinker:
             self.count()
             try:
                 _, judged = self.worker.play(tree, steps, self.in_flight, self.group.first.seed, self.until,
-                                             self.timeout)
+                                             self.timeout, self.group.first.session.cut)
             except NotStarted:
                 return None
             for difference in judged.differences:

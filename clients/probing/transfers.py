@@ -315,8 +315,12 @@ NAMES = [
     b"s", b"l" * 255, b"\xc3\xa9" * 127, b"caf\xc3\xa9 cr\xc3\xa8me", b"cafe\xcc\x81 creme", b"\xf0\x9f\x90\x9f",
     b"two words", b" before", b"behind ", b" ", b"-rf", b"--", b"two\nlines", b"\n", b"tab\there", b"'", b'"', b"\\",
     b"\\n", b"*", b"?", b"[a-z]", b"~", b"$HOME", b"#", b";", b"&", b"|", b"%s%n", b".hidden", b"...", b"..a", b"Upper",
-    b"upper", b"\xff\xfe\x80", b"\xc3", b"\x01\x7f", b"C:", b"nul", b"\xe2\x80\xae",
+    b"upper", b"\xff\xfe\x80", b"\xc3", b"\x01\x7f", b"C:", b"nul", b"\xe2\x80\xae", b"50%41", b"a+b", b"<x>",
+    b"k=v,@^!`{}()", b"cr\rhere", b"host:port", b"dot.",
 ]
+
+# How many of them a scene makes, so that there are others to rename to.
+MADE = 34
 
 
 def listing(p, path, count):
@@ -378,7 +382,7 @@ def unusual_names(p):
     top = p.blank(b"names")
     yield p.ask("MKDIR", top, {})
     names = p.random.sample(NAMES, len(NAMES))
-    for name in names[:30]:
+    for name in names[:MADE]:
         path = top + b"/" + name
         if p.random.random() < 0.25:
             yield p.ask("MKDIR", path, {})
@@ -386,7 +390,7 @@ def unusual_names(p):
             yield from upload(p, path, Content(p.random, p.random.choice([0, 3, 50])))
         yield p.ask(p.random.choice(["STAT", "LSTAT", "REALPATH"]), path)
     yield from listing(p, top, len(names))
-    for old, new in zip(names[:30:3], names[30:]):
+    for old, new in zip(names[:MADE:3], names[MADE:]):
         yield p.ask(p.random.choice(["RENAME", "POSIX-RENAME"]), top + b"/" + old, top + b"/" + new)
         yield p.ask("LSTAT", top + b"/" + old)
         yield p.ask("LSTAT", top + b"/" + new)

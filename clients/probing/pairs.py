@@ -1,0 +1,148 @@
+"""Pairs of requests that depend on each other and come one behind the other, which a server with many in flight may not
+exchange. Each pair has a file or a directory of its own, and stands where no request waits for another's reply."""
+from probing.plans import Content
+from probing.transfers import APPEND, CREAT, READ, TRUNC, WRITE, listing
+
+
+def side_by_side(p):
+    """Each pair whose feature is not left out, in any order."""
+    pairs = [pair for pair, feature in PAIRS.items() if feature not in p.skip]
+    for pair in p.random.sample(pairs, len(pairs)):
+        yield from pair(p)
+
+
+def filled(p, flags=READ | WRITE):
+    """A file of 600 bytes that is open. Gives its path, its content and the OPEN."""
+    path, content = p.blank(b"pair"), Content(p.random, 600)
+    step = p.ask("OPEN", path, flags | WRITE | CREAT | TRUNC, {})
+    yield step
+    yield p.ask("WRITE", step.opened(), 0, content.at(0, 600))
+    return path, content, step
+
+
+def set_and_set(p):
+    """Two SETSTATs of one thing: the second holds."""
+    path, _, step = yield from filled(p)
+    for name, value in (("permissions", p.random.sample([0o600, 0o640, 0o604], 2)), ("size", [700, 300])):
+        for one in value:
+            yield p.ask("SETSTAT", path, {name: one})
+    yield p.ask("STAT", path)
+    yield p.ask("CLOSE", step.opened())
+
+
+def trunc_and_set(p):
+    """A file is emptied, and then given a length, and the other way round."""
+    path, _, step = yield from filled(p)
+    yield p.ask("OPEN", path, WRITE | CREAT | TRUNC, {})
+    yield p.ask("SETSTAT", path, {"size": 50})
+    yield p.ask("STAT", path)
+    yield p.ask("SETSTAT", path, {"size": 60})
+    yield p.ask("OPEN", path, WRITE | CREAT | TRUNC, {})
+    yield p.ask("STAT", path)
+    yield p.ask("CLOSE", step.opened())
+
+
+def read_and_trunc(p):
+    """A file is read, and then emptied or cut by its path."""
+    path, _, step = yield from filled(p)
+    yield p.ask("READ", step.opened(), 0, 100)
+    yield p.ask("SETSTAT", path, {"size": 40})
+    yield p.ask("READ", step.opened(), 0, 100)
+    yield p.ask("OPEN", path, WRITE | CREAT | TRUNC, {})
+    yield p.ask("READ", step.opened(), 0, 100)
+    yield p.ask("CLOSE", step.opened())
+
+
+def cut_and_read(p):
+    """A file is cut, or made longer, through the handle, and then read through it."""
+    _, _, step = yield from filled(p)
+    for size in (200, 500, 20):
+        yield p.ask("FSETSTAT", step.opened(), {"size": size})
+        yield p.ask("READ", step.opened(), 0, 1000)
+    yield p.ask("CLOSE", step.opened())
+
+
+def write_and_look(p):
+    """A WRITE through one handle, and an FSTAT or a READ through another of the file."""
+    path, content, step = yield from filled(p)
+    other = p.ask("OPEN", path, READ, {})
+    yield other
+    yield p.ask("STAT", path)
+    for size in (600, 650):
+        yield p.ask("WRITE", step.opened(), size, content.at(size, 50))
+        yield p.ask("FSTAT", other.opened())
+    yield p.ask("WRITE", step.opened(), 3, content.at(9, 50))
+    yield p.ask("READ", other.opened(), 0, 60)
+    for one in (step, other):
+        yield p.ask("CLOSE", one.opened())
+
+
+def name_and_look(p):
+    """A name that HARDLINK makes, and what is asked of it."""
+    path, _, step = yield from filled(p)
+    for name in ("STAT", "LSTAT", "OPEN"):
+        other = p.blank(b"pair.other")
+        yield p.ask("HARDLINK", path, other)
+        yield p.ask(name, other, *([READ, {}] if name == "OPEN" else []))
+    yield p.ask("CLOSE", step.opened())
+
+
+def link_and_remove(p):
+    """A link that is made and removed, or made and read."""
+    path = p.blank(b"pair.link")
+    for name in ("REMOVE", "READLINK", "LSTAT"):
+        yield p.ask("SYMLINK", b"aim", path)
+        yield p.ask(name, path)
+    yield p.ask("REMOVE", path)
+    yield p.ask("LSTAT", path)
+
+
+def rename_and_look(p):
+    """A link to a file gets another name, and that is asked where it leads; the file gets one, and is looked at."""
+    path, _, step = yield from filled(p)
+    links = [p.blank(b"pair.link") for _ in range(3)]
+    yield p.ask("SYMLINK", path, links[0])
+    for name, old, new in (("RENAME", *links[:2]), ("POSIX-RENAME", *links[1:])):
+        yield p.ask(name, old, new)
+        yield p.ask("REALPATH", new)
+    new = p.blank(b"pair.new")
+    yield p.ask("RENAME", path, new)
+    yield p.ask("STAT", new)
+    yield p.ask("FSTAT", step.opened())
+    yield p.ask("STAT", path)
+    yield p.ask("CLOSE", step.opened())
+
+
+def change_and_list(p):
+    """A name is made in a directory or removed from it, and then that is listed."""
+    top = p.blank(b"pair.top")
+    yield p.ask("MKDIR", top, {})
+    yield p.ask("MKDIR", top + b"/a", {})
+    yield from listing(p, top, 1)
+    yield p.ask("SYMLINK", b"aim", top + b"/b")
+    yield from listing(p, top, 2)
+    yield p.ask("REMOVE", top + b"/b")
+    yield from listing(p, top, 1)
+    yield p.ask("RMDIR", top + b"/a")
+    yield from listing(p, top, 0)
+
+
+def append_and_append(p):
+    """Two WRITEs through two handles with APPEND, and a STAT of the file."""
+    path, content, step = yield from filled(p, APPEND)
+    other = p.ask("OPEN", path, WRITE | APPEND, {})
+    yield other
+    yield p.ask("STAT", path)
+    for one, count in ((step, 7), (other, 9), (step, 100), (other, 1)):
+        yield p.ask("WRITE", one.opened(), 0, content.at(count, count))
+    yield p.ask("STAT", path)
+    for one in (step, other):
+        yield p.ask("CLOSE", one.opened())
+
+
+# The pairs, each with the feature that it needs, if it does.
+PAIRS = {
+    set_and_set: None, cut_and_read: None, link_and_remove: None, rename_and_look: None, change_and_list: None,
+    trunc_and_set: "two-handles", read_and_trunc: "two-handles", write_and_look: "two-handles",
+    name_and_look: "two-handles", append_and_append: "append",
+}
