@@ -37,8 +37,6 @@ class Session:
 
     # The most requests without a reply.
     in_flight: int = 1
-    # Where requests went in pieces, the number that says which; else None.
-    cut: Optional[int] = None
     # Pairs of `b"C"` or `b"S"` and a packet, in the order in which they passed. The last may not be whole.
     records: List[Tuple[bytes, bytes]] = field(default_factory=list)
     # For each record the seconds from the start of the server: of a request when it went to the pipe, of a reply when
@@ -56,6 +54,8 @@ class Session:
     status: Optional[int] = None
     # The tree file that it was judged by, where that was seen and not given.
     start: Optional[bytes] = None
+    # Where requests went in pieces, the number that says which; else None.
+    cut: Optional[int] = None
 
     def transcript(self):
         return sftp3.put_records(self.records)
@@ -98,7 +98,7 @@ class Player:
     def __init__(self, running, steps, in_flight, timeout, stop, cut=None):
         self.running, self.in_flight, self.timeout, self.stop = running, in_flight, timeout, stop
         self.waiting = deque(steps)
-        self.session = Session(in_flight, cut)
+        self.session = Session(in_flight, cut=cut)
         self.unanswered, self.handles = {}, {}
         self.asked = self.unwanted = 0
         self.most = REPLIES + sum(min(it.fields[2], servers.LARGEST) for it in self.waiting if it.name == "READ")

@@ -250,17 +250,24 @@ def handle_of(packet):
 
 def through(records, handle, start, name=None):
     """The requests through a handle after this record, and their replies, until a reply gives the handle again."""
-    found, numbers = set(), {}
+    found, waiting, is_gone = set(), set(), False
     for place in range(start + 1, len(records)):
         side, packet = records[place]
+        number = int.from_bytes(packet[5:9], "big")
         if side == b"C":
-            asked = sftp3.decode(packet)
-            if asked.handle() == handle and name in (None, asked.name):
+            if not is_gone and is_through(packet, handle, name):
                 found.add(place)
-                numbers[asked.number] = place
-        elif handle_of(packet) == handle:
-            break
-    replies = {place for place in range(start + 1, len(records)) if records[place][0] == b"S"
-               and int.from_bytes(records[place][1][5:9], "big") in numbers
-               and numbers[int.from_bytes(records[place][1][5:9], "big")] < place}
-    return found | replies
+                waiting.add(number)
+            continue
+        is_gone = is_gone or handle_of(packet) == handle
+        # a second reply is to no request
+        if number in waiting:
+            waiting.remove(number)
+            found.add(place)
+    return found
+
+
+def is_through(packet, handle, name):
+    """Whether a request is through this handle, and of this name unless that is None."""
+    asked = sftp3.decode(packet)
+    return asked.handle() == handle and name in (None, asked.name)
