@@ -4,7 +4,7 @@ ghost use Rattle.std.specs.IoError.{error_kind};
 ghost use Rattle.std.specs.declared.io.ErrorKind.TheVariants as kinds;
 ghost use Rattle.sftp_files.specs.declared.messages.Failure.TheVariants as failures;
 ghost use Rattle.sftp_files.specs.Failures.{tree_failure, IsTranscriptFailure, IsUsage};
-ghost use Rattle.sftp_files.specs.Failures.{IsUnreadFile, IsUnwritten, IsUnwrittenFile};
+ghost use Rattle.sftp_files.specs.Failures.{IsUnread, IsUnreadFile, IsUnwritten, IsUnwrittenFile};
 ghost use Rattle.sftp_files.specs.Failures.{IsUnreplacedFile, IsUncopiedFile};
 
 use crate::names::Named;
@@ -159,10 +159,14 @@ impl Failure<'_> {
 }
 
 impl<'a> Failure<'a> {
+    ghost use Rattle.sftp_files.specs.Failures.{failure_status};
+
     /// Why the file `name` could not be read. When memory runs out, the file is not to blame.
     pub fn reading(name: &'a str, error: &io::Error) -> Failure<'a>
         ensures memory { error_kind error.now ≡ kinds.OutOfMemory → result ≡ failures.OutOfMemory }
         ensures file { error_kind error.now ≢ kinds.OutOfMemory → IsUnreadFile name.now result }
+        ensures either { IsUnread result }
+        ensures status { failure_status result ≡ 3 }
     {
         match error.kind() {
             io::ErrorKind::OutOfMemory => Failure::OutOfMemory,
@@ -174,6 +178,7 @@ impl<'a> Failure<'a> {
     pub fn writing(name: &'a str, error: &io::Error) -> Failure<'a>
         ensures memory { error_kind error.now ≡ kinds.OutOfMemory → result ≡ failures.OutOfMemory }
         ensures file { error_kind error.now ≢ kinds.OutOfMemory → IsUnwrittenFile name.now result }
+        ensures either { IsUnwritten result }
     {
         match error.kind() {
             io::ErrorKind::OutOfMemory => Failure::OutOfMemory,
@@ -185,6 +190,7 @@ impl<'a> Failure<'a> {
     pub fn replacing(name: &'a str, error: &io::Error) -> Failure<'a>
         ensures memory { error_kind error.now ≡ kinds.OutOfMemory → result ≡ failures.OutOfMemory }
         ensures file { error_kind error.now ≢ kinds.OutOfMemory → IsUnreplacedFile name.now result }
+        ensures either { IsUnwritten result }
     {
         match error.kind() {
             io::ErrorKind::OutOfMemory => Failure::OutOfMemory,
@@ -196,6 +202,7 @@ impl<'a> Failure<'a> {
     pub fn copying(name: &'a str, error: &io::Error) -> Failure<'a>
         ensures memory { error_kind error.now ≡ kinds.OutOfMemory → result ≡ failures.OutOfMemory }
         ensures file { error_kind error.now ≢ kinds.OutOfMemory → IsUncopiedFile name.now result }
+        ensures status { failure_status result ≡ 3 }
     {
         match error.kind() {
             io::ErrorKind::OutOfMemory => Failure::OutOfMemory,
