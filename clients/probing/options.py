@@ -153,7 +153,7 @@ def parser(about):
     add_of_plans(found.add_argument)
     add_of_run(found.add_argument)
     for option in verdicts.PROFILE_OPTIONS:
-        found.add_argument(option, metavar="WORD", help="for `sftpv3 audit`, if it has this option")
+        found.add_argument(option, metavar="WORD", help=f"as of `sftpv3 audit {option}`")
     found.add_argument("command", nargs="+", help=argparse.SUPPRESS)
     return found
 
