@@ -95,6 +95,10 @@ TOLD = [
 ]
 
 
+# A name that is no UTF-8, and why no tree is written there: the program takes no such name.
+OTHER, NO_TEXT = os.fsdecode(b"x\xff"), "sftpv3 takes no name that is not UTF-8"
+
+
 def limit():
     resource.setrlimit(resource.RLIMIT_AS, (MEMORY, MEMORY))
     resource.setrlimit(resource.RLIMIT_CPU, (ENDLESS, ENDLESS))
@@ -374,10 +378,19 @@ def try_mistakes(steps, folder):
             (["--to", "x"], ["nowhere"], "cannot run nowhere: No such file or directory"),
             (["--to", "x"], [folder], f"cannot run {folder}: Permission denied"),
             (["--to", folder], ["touch", "started"], f"cannot write {folder}: not a regular file"),
-            (["--to", "nodir/x"], ["touch", "started"], "cannot write nodir/x: there is no folder nodir")):
+            (["--to", "nodir/x"], ["touch", "started"], "cannot write nodir/x: there is no folder nodir"),
+            (["--to", OTHER], ["touch", "started"], rf"cannot write x\xff: {NO_TEXT}"),
+            (["--to", "x", "--session", OTHER], ["touch", "started"], rf"cannot write x\xff: {NO_TEXT}")):
         status, said = walk(folder, options, command)
         steps.check(wanted, status == 3 and said == f"walk: {wanted}\n", f"{status}: {said}")
+    os.makedirs(os.path.join(folder, OTHER), exist_ok=True)
+    status, said = run([WALK, "--to", "x", "--", "touch", "started"], folder,
+                       env={**os.environ, "TMPDIR": os.path.join(folder, OTHER)})
+    steps.check("TMPDIR that is no UTF-8: status 3, and why", status == 3 and NO_TEXT in said and
+                said.count("\n") == 1, f"{status}: {said}")
     steps.check("nothing was started", not os.path.exists(os.path.join(folder, "started")))
+    status, said = walk(folder, ["--session", OTHER + "/s"], [*HOSTILE, "Right"])
+    steps.check("--session alone may have any name", status == 0 and r"x\xff/s: " in said, f"{status}: {said}")
 
 
 def try_names(steps, folder):
