@@ -176,13 +176,12 @@ class Night:
 
     def put_aside_now(self, copy, kind, verdict):
         """Keeps a record that is not accepted, with its verdict."""
-        place = accepting.put_aside(copy, kind, self.tree)
         try:
             if verdict:
-                with open(f"{place}.verdict", "w", encoding="utf-8") as file:
-                    file.writelines(f"{line}\n" for line in verdict)
+                accepting.note_verdict(verdict)
         except OSError as error:
             self.say(f"  the verdict cannot be kept beside the record: {error.strerror}", 1)
+        accepting.put_aside(copy, kind, self.tree)
 
     def audit_all(self):
         """Audits what has ended, as far as there is a tree to start from. Returns whether something is left: a session
