@@ -282,6 +282,30 @@ def try_signals(steps, folder):
                 f"{status}: {said}")
 
 
+def try_pause(steps, folder):
+    """Where all is stopped for longer than a reply may take, as in a container that is paused, no server is blamed."""
+    probe = [os.path.join(TOP, "clients", "probe"), "--seeds", "1", "--jobs", "1", "--timeout", "4", "--keep", "kept"]
+    waits = [sys.executable, os.path.join(TOP, "clients", "probing", "misbehaving.py"), "waits_once", program(),
+             "serve", "--tree", "{tree}"]
+    for words in ([WALK, "--timeout", "4", "--to", "seen.tree", "--", *HOSTILE, "marks_and_waits"],
+                  [*probe, "--", *waits]):
+        mark = os.path.join(tempfile.mkdtemp(dir=folder), "mark")
+        with subprocess.Popen(words, cwd=folder, env={**os.environ, "MARK": mark}, stdin=subprocess.DEVNULL,
+                              stdout=subprocess.PIPE, stderr=subprocess.STDOUT) as running:
+            wait_until(lambda: os.path.exists(mark) or running.poll() is not None)
+            others = [it for it in processes_of(mark) if it != running.pid]
+            for it in (running.pid, *others):
+                os.kill(it, signal.SIGSTOP)
+            time.sleep(6)
+            os.kill(running.pid, signal.SIGCONT)
+            time.sleep(0.5)
+            for it in others:
+                os.kill(it, signal.SIGCONT)
+            said = running.communicate(timeout=HUNG)[0].decode(errors="replace")
+        steps.check(f"{os.path.basename(words[0])}: all is stopped for 6 seconds, where replies have 4: none is late",
+                    running.returncode == 0 and others, f"{running.returncode}: {said}")
+
+
 # A walk that gets SIGTERM when `infer` has ended.
 LATE = """
 import os, runpy, signal, subprocess, sys
