@@ -78,7 +78,7 @@ class Night:
         if not any(it.partition("=")[0] == "--memory" for it in self.options):
             self.options += ["--memory", str(given.memory)]
         self.spool = Spool(given.records, given.number)
-        self.folders = [os.path.join(os.getcwd(), it) for it in given.folders]
+        self.folders = [os.fsdecode(ways.from_root(os.fsencode(it))) for it in given.folders]
         self.status = self.accepted = self.unanswered = 0
         # when the night is over, and whether a record was looked at in it
         self.until, self.is_begun = time.monotonic() + given.night_seconds, False

@@ -10,7 +10,7 @@ import sftp3
 from paging import exchanges, packets
 from probing import features, files, program, refusals, sessions, shrinking, verdicts
 from recording.parsers import Parser
-from recording.ways import Way, is_inherited, named_twice, names, text_of
+from recording.ways import Way, from_root, is_inherited, named_twice, names, text_of
 
 # The exit statuses: all sessions were accepted; there are differences; the command line is wrong, or plans nothing; the
 # server, the command of --reset or the program could not be started; no difference was found, and not all was played.
@@ -209,7 +209,7 @@ def read(option, name, reader):
 def is_writable_at(path, is_made):
     """Whether this user can write to the folder of a path; with `is_made`, to the last one that is there."""
     with Way() as way:
-        for name in names(os.fsencode(os.path.dirname(path))):
+        for name in names(os.path.dirname(path)):
             place = (*way.place, name)
             try:
                 way.go_through((name,))
@@ -224,7 +224,7 @@ def is_writable_at(path, is_made):
 def can_write(option, name):
     """Refuses what could not be written after all has been played."""
     try:
-        is_fit = is_writable_at(os.path.join(os.getcwd(), name.rstrip("/")), option == "--keep")
+        is_fit = is_writable_at(from_root(os.fsencode(name.rstrip("/"))), option == "--keep")
     except (FileNotFoundError, NotADirectoryError):
         is_fit = False
     except OSError as error:

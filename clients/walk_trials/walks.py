@@ -417,6 +417,25 @@ def try_mistakes(steps, folder):
     steps.check("--session alone may have any name", status == 0 and r"x\xff/s: " in said, f"{status}: {said}")
 
 
+def try_no_folder(steps, folder):
+    """Where the current folder is gone, whole names lead to where they did."""
+    to, sent = os.path.join(folder, "whole.tree"), [*HOSTILE, "Right"]
+    live = os.path.join(folder, "looked-at")
+    os.mkdir(live)
+    session = os.path.join(TOP, "examples", "wrong-byte.transcript")
+    for name, words, wanted, what in (
+            ("walk", ["--to", to, "--", *sent], 0, "inferred"), ("tree", ["--out", to, live], 0, " entries"),
+            ("walk", ["--to", "seen.tree", "--", *sent], 3, "cannot write seen.tree: there is no folder ."),
+            ("page", [session, "-o", "x.html"], 3, "No such file"), ("page", ["x", "-o", "y"], 3, "x: No such file"),
+            ("page", ["x", "-o", "./x"], 2, "name one file")):
+        gone = tempfile.mkdtemp(dir=folder)
+        line = ["sh", "-c", 'rmdir "$PWD" && exec "$@"', "sh", "/usr/bin/python3", "-B",
+                os.path.join(TOP, "clients", name), *words]
+        status, said = run(line, gone)
+        steps.check(f"{name} {' '.join(words[:3])}, the current folder is gone: {what}", status == wanted and
+                    what in said and "Traceback" not in said, f"{status}: {said}")
+
+
 def try_names(steps, folder):
     """A record that gets another name since the first is taken is not replaced by the tree."""
     for name in ("taken", "taken.2"):
