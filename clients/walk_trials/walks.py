@@ -387,6 +387,18 @@ def no_files():
     resource.setrlimit(resource.RLIMIT_FSIZE, (0, 0))
 
 
+def try_soft_limit(steps, folder):
+    """A limit of the system that is lower than --memory is kept, also a soft one, and is what is named."""
+    greedy = {"env": {**os.environ, "SFTPV3": executable(os.path.join(folder, "greedy-too"), GREEDY)}}
+    for hard in (200 << 20, resource.RLIM_INFINITY):
+        status, said = run([WALK, "--to", "x", "--", *HOSTILE, "Right"], folder, **greedy,
+                           preexec_fn=lambda: resource.setrlimit(resource.RLIMIT_AS, (200 << 20, hard)))
+        steps.check(f"ulimit -v 200 MiB, {'soft' if hard < 0 else 'hard'}: infer gets no more, and that is said",
+                    status == 3 and is_clean(said) and "--memory" not in said and
+                    "`sftpv3 infer` needs more than the system's limit of 209,715,200 bytes (ulimit -v)" in said,
+                    f"{status}: {said}")
+
+
 def try_full_disk(steps, folder):
     """Where no file can be written, a walk and a probe fail: they do not tell of a tree or of differences."""
     probe = [os.path.join(TOP, "clients", "probe"), "--", program(), "serve", "--tree", "{tree}"]
