@@ -51,7 +51,7 @@ def forced(asked):
 
 
 def other_commands(steps, room):
-    """Clients that want a shell or a command, where ForceCommand starts the recorder: they are told, and do not wait."""
+    """Clients that want a shell or a command, where ForceCommand starts the recorder: they are told, and end."""
     silent = {it: room.stub(f"t-{it}", env=forced(asked))
               for it, asked in (("id", "id"), ("server", "/usr/lib/openssh/sftp-server -u 022"), ("mine", "/opt/mine"))}
     late = room.stub("t-late", env=forced("/opt/mine -x"))
@@ -70,7 +70,8 @@ def other_commands(steps, room):
         ran = run(room, "--overwrite", "t", STUB, data=data, env=forced("cat -n"))
         steps.check(f"a command to which {data!r} is sent: its client is told", ran.returncode != 0 and
                     ONLY_SFTP.encode() in ran.stderr and ran.stdout == b"", str(ran))
-    ran = run(room, "--overwrite", "t", STUB, data=b"", env={**os.environ, "SSH_CONNECTION": "192.0.2.7 1 192.0.2.1 2"})
+    over = {**os.environ, "SSH_CONNECTION": "192.0.2.7 1 192.0.2.1 2"}
+    ran = run(room, "--overwrite", "t", STUB, data=b"", env=over)
     steps.check("a subsystem to which nothing is sent: no word", ran.returncode == 0 and ran.stderr == b"", str(ran))
     os.close(ours)
     os.close(theirs)
