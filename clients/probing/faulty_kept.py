@@ -74,18 +74,19 @@ class stays_absent_below(Fault):
 
     def __init__(self):
         super().__init__()
-        self.absent = set()
+        self.absent, self.put = set(), set()
 
     def ask(self, asked):
         if asked.name in ("OPEN", "MKDIR", "SYMLINK", "HARDLINK", *MOVES):
-            self.absent -= set(paths_of(asked))
+            self.put |= set(paths_of(asked))
+            self.absent -= self.put
         return [asked]
 
     def answer(self, asked, reply):
         if asked.name not in LOOKS:
             return [reply]
         path = clean(asked.fields[0])
-        if reply[4] == sftp3.STATUS and sftp3.Reply(reply).code == sftp3.NO_SUCH_FILE:
+        if reply[4] == sftp3.STATUS and sftp3.Reply(reply).code == sftp3.NO_SUCH_FILE and path not in self.put:
             self.absent.add(path)
         return [status(reply, ABSENT) if path in self.absent else reply]
 

@@ -1,6 +1,7 @@
 """Scenes that look again at what changed: what a server keeps of attributes, names, targets and bytes has to go with
 them. Each has names of its own, as those of transfers.py have."""
-from probing.plans import Content
+from probing.model import FAR
+from probing.plans import Content, Unlike
 from probing.transfers import (
     APPEND, CREAT, EXCL, KIB, READ, TRUNC, WRITE, download, listing, upload)
 
@@ -33,7 +34,8 @@ def reading_on(p):
 
 
 def leaving_gaps(p):
-    """A file that was cut or emptied, and a WRITE behind its end: the gap has none of the bytes of before."""
+    """A file that was cut or emptied, and a WRITE behind its end: the gap has none of the bytes of before. A WRITE that
+    no system has room for, and one behind it."""
     path, content, step = yield from filled(p, b"gap", 5000)
     emptied = p.ask("OPEN", path, WRITE | CREAT | TRUNC, {})
     cuts = [p.ask("FSETSTAT", step.opened(), {"size": 1000}), p.ask("SETSTAT", path, {"size": 700}), emptied]
@@ -41,7 +43,9 @@ def leaving_gaps(p):
         yield cut
         yield p.ask("WRITE", step.opened(), 4000, content.at(4000, 1500))
         yield p.ask("READ", step.opened(), 0, 6000)
-    yield p.ask("SETSTAT", path, {"size": 5500})
+    if "huge" not in p.skip:
+        yield p.ask("WRITE", step.opened(), FAR - 1, b"x", cause="NoRoom")
+    yield p.ask("WRITE", step.opened(), 10, content.at(3, 40))
     yield p.ask("FSETSTAT", step.opened(), {"size": 5500})
     yield p.ask("READ", step.opened(), 3990, 2000)
     for one in (step, emptied):
@@ -49,8 +53,8 @@ def leaving_gaps(p):
 
 
 def passing(p):
-    """A file that is removed as soon as it is made, and used by its handle; a directory that is removed while it is
-    open, and made again."""
+    """A file that is removed as soon as it is made, and used by its handle, and not by what is longer than that; a
+    directory that is removed while it is open, and made again."""
     path, content, folder = p.blank(b"passing"), Content(p.random, 3000), p.blank(b"passing.d")
     step = p.ask("OPEN", path, READ | WRITE | CREAT | EXCL, {})
     yield step
@@ -58,6 +62,9 @@ def passing(p):
     yield p.ask("WRITE", step.opened(), 0, content.at(0, 3000))
     yield p.ask("LSTAT", path)
     yield p.ask("READ", step.opened(), 0, 4000)
+    for name in ("READ", "CLOSE"):
+        yield p.ask(name, Unlike(step.number), *([0, 10] if name == "READ" else []), cause="BadHandle")
+    yield p.ask("FSTAT", step.opened())
     yield p.ask("CLOSE", step.opened())
     yield p.ask("MKDIR", folder, {})
     listed = p.ask("OPENDIR", folder)
@@ -162,7 +169,7 @@ def moving_tree(p):
     beside it stays."""
     top, new = p.blank(b"branch"), p.blank(b"bough")
     beside, file = top + b".old", b"/in/file"
-    for path in (top, top + b"/in", top + b"/empty", beside, new + b".old"):
+    for path in (top, top + b"/in", top + b"/empty", beside):
         yield p.ask("MKDIR", path, {})
     yield p.ask("SETSTAT", top + b"/in", {"permissions": 0o710})
     yield from upload(p, top + file, Content(p.random, 80))
@@ -172,7 +179,7 @@ def moving_tree(p):
         yield p.ask("LSTAT", path)
     yield p.ask("LSTAT", new)
     yield p.ask("RENAME", top, new)
-    for path in (new + file, new + b"/in", new + b"/empty", beside, new + b".old", top + file):
+    for path in (new + file, new + b"/in", new + b"/empty", beside, top + file):
         yield p.ask("LSTAT", path)
     yield p.ask("STAT", new + b"/in/link")
     yield from listing(p, new, 2)
@@ -181,7 +188,8 @@ def moving_tree(p):
     yield p.ask("POSIX-RENAME", new, top)
     yield p.ask("LSTAT", top + file)
     yield from download(p, top + file, 80)
-    yield p.ask("MKDIR", new, {})
+    for path in (new, new + b".old"):
+        yield p.ask("MKDIR", path, {})
     yield p.ask("RMDIR", new)
     yield p.ask("LSTAT", new + b".old")
 
@@ -206,8 +214,8 @@ def listing_again(p):
 
 # Names that some systems, or the stores behind a server, take for one, or for another.
 ALIKE = [
-    b"Case", b"case", b"\xc3\xa9t\xc3\xa9", b"e\xcc\x81te\xcc\x81", b"l" * 254 + b"1", b"l" * 254 + b"2", b"a", b"a#b?c",
-    b"v", b"v;1", b"two blanks", b"two  blanks", b"ends..", b"aux.c", b"long.html", b"long.htm", b"in\\side", b"*",
+    b"Case", b"case", b"\xc3\xa9t\xc3\xa9", b"e\xcc\x81te\xcc\x81", b"l" * 254 + b"1", b"l" * 254 + b"2", b"a",
+    b"a#b?c", b"v", b"v;1", b"two blanks", b"two  blanks", b"ends..", b"aux.c", b"long.html", b"long.htm", b"in\\side", b"*",
 ]
 
 
@@ -233,12 +241,12 @@ def alike_names(p):
 
 
 def counting(p):
-    """A file that is written in 260 small blocks, and read in as many, by one handle."""
+    """A file that is written in 257 small blocks, and read in as many, by one handle."""
     path, content = p.blank(b"counted"), Content(p.random, 5200)
     step = p.ask("OPEN", path, READ | WRITE | CREAT | TRUNC, {})
     yield step
     for name in ("WRITE", "READ"):
-        for number in range(260):
+        for number in range(257):
             place = 20 * number
             yield p.ask(name, step.opened(), place, content.at(place, 20) if name == "WRITE" else 20)
     yield p.ask("CLOSE", step.opened())
@@ -249,9 +257,9 @@ def failing_often(p):
     path, folder = p.blank(b"found"), p.blank(b"found.d")
     yield from upload(p, path, Content(p.random, 60))
     yield p.ask("MKDIR", folder, {})
-    for _ in range(110):
+    for _ in range(104):
         yield p.ask("OPEN", path + b".not", READ, {}, cause="NoEntry")
-    for _ in range(70):
+    for _ in range(64):
         yield p.ask("OPENDIR", path, cause="NotDir")
     yield from download(p, path, 60)
     yield from listing(p, folder, 0)
