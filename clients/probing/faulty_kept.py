@@ -25,25 +25,6 @@ def is_below(path, top):
     return path.startswith(top + b"/")
 
 
-class listed_as_first(Listings):
-    """A listing shows the attributes that the first listing of the directory showed of a name, until what has the name
-    is another."""
-
-    def __init__(self):
-        super().__init__()
-        self.shown = {}
-
-    def ask(self, asked):
-        if asked.name in ("REMOVE", "RMDIR", "MKDIR", "SYMLINK", "HARDLINK", *MOVES):
-            for path in paths_of(asked):
-                self.shown.pop(path, None)
-        return [asked]
-
-    def listed(self, asked, _before, items):
-        top = clean(self.path(asked) or b"/")
-        return [(name, long, self.shown.setdefault(posixpath.join(top, name), given)) for name, long, given in items]
-
-
 class link_replaced_unseen(Fault):
     """STAT, OPEN and OPENDIR of a link that posix-rename replaced by another lead where the old one led."""
 
@@ -89,27 +70,6 @@ class stays_absent_below(Fault):
         if reply[4] == sftp3.STATUS and sftp3.Reply(reply).code == sftp3.NO_SUCH_FILE and path not in self.put:
             self.absent.add(path)
         return [status(reply, ABSENT) if path in self.absent else reply]
-
-
-class absent_behind_listing(Fault):
-    """Once a directory was listed, STAT and LSTAT find nothing at a name that HARDLINK or posix-rename makes in it, until
-    it is listed again."""
-
-    def __init__(self):
-        super().__init__()
-        self.listed, self.made = set(), set()
-
-    def ask(self, asked):
-        if asked.name == "OPENDIR":
-            top = clean(asked.fields[0])
-            self.listed.add(top)
-            self.made = {path for path in self.made if posixpath.dirname(path) != top}
-        if asked.name in ("HARDLINK", "POSIX-RENAME"):
-            new = clean(asked.fields[1])
-            self.made |= {new} if posixpath.dirname(new) in self.listed else set()
-        if asked.name in LOOKS and clean(asked.fields[0]) in self.made:
-            asked.fields[0] = b"/absent/absent"
-        return [asked]
 
 
 class ReadAhead(Asks, Reads):
@@ -203,22 +163,6 @@ class removed_directory_keeps_path(RemovedOpen):
         return refused(asked) if asked.name == "MKDIR" else [asked]
 
 
-class close_writes_again(Asks):
-    """CLOSE writes again what was written through the handle."""
-
-    def __init__(self):
-        super().__init__()
-        self.written = {}
-
-    def ask(self, asked):
-        if asked.name == "WRITE" and not self.flags(asked) & APPEND and asked.fields[1] < FAR:
-            self.written.setdefault(asked.handle(), []).append(asked.fields[1:])
-        if asked.name == "CLOSE":
-            handle = asked.handle()
-            return [self.another("WRITE", handle, *one) for one in self.written.pop(handle, ())] + [asked]
-        return [asked]
-
-
 class Fresh(Meets):
     """Knows the files that OPEN made and that are open still, by their paths."""
 
@@ -246,98 +190,6 @@ class new_cannot_be_removed(Fresh):
 
     def of_fresh(self, asked):
         return refused(asked) if asked.name == "REMOVE" else [asked]
-
-
-class new_is_there_when_closed(Fresh):
-    """STAT and LSTAT find a file that OPEN made when it is closed."""
-
-    def of_fresh(self, asked):
-        return [sftp3.Request(asked.number, asked.name, [b"/absent/absent"])] if asked.name in LOOKS else [asked]
-
-
-class new_cannot_be_named(Fresh):
-    """RENAME and HARDLINK of a file that OPEN made fail until it is closed."""
-
-    def of_fresh(self, asked):
-        return refused(asked) if asked.name in ("RENAME", "HARDLINK") else [asked]
-
-
-class new_is_listed_when_closed(Fresh, Listings):
-    """A listing lacks a file that OPEN made until it is closed."""
-
-    def listed(self, asked, _before, items):
-        top, still = clean(self.path(asked) or b"/"), {self.fresh.get(opener.number) for opener in self.openers()}
-        return [item for item in items if posixpath.join(top, item[0]) not in still]
-
-
-class close_makes_old_name(Asks):
-    """CLOSE of a file that was written, and got another name while it was open, makes the old name again."""
-
-    def __init__(self):
-        super().__init__()
-        self.moved, self.written = set(), set()
-
-    def ask(self, asked):
-        if asked.name in MOVES:
-            self.moved |= {opener.number for opener in list(self.opened.values())
-                           if opener.name == "OPEN" and clean(opener.fields[0]) == clean(asked.fields[0])}
-        if asked.name == "WRITE":
-            self.written.add(self.opener_number(asked))
-        opener = self.asked[asked.number].opened if asked.name == "CLOSE" else None
-        if opener is not None and opener.number in self.moved & self.written:
-            handle = sftp3.Reply(self.now("OPEN", opener.fields[0], WRITE | CREAT, {})).handle
-            self.now("CLOSE", handle or b"")
-        return [asked]
-
-
-class permissions_at_open_stay(Asks):
-    """CLOSE of a file that was written gives it the permissions that it had at OPEN."""
-
-    def __init__(self):
-        super().__init__()
-        self.written = set()
-
-    def ask(self, asked):
-        if asked.name == "OPEN":
-            given = self.attributes_now("STAT", asked.fields[0])
-            self.asked[asked.number].mode = given and given["permissions"]
-        if asked.name == "WRITE":
-            self.written.add(self.opener_number(asked))
-        opener = self.asked[asked.number].opened if asked.name == "CLOSE" else None
-        if opener is not None and opener.number in self.written and getattr(opener, "mode", None):
-            self.now("FSETSTAT", asked.handle(), {"permissions": opener.mode})
-        return [asked]
-
-
-class size_while_written(Listings):
-    """A listing shows 0 as the size of a file that is open to be written."""
-
-    def listed(self, asked, _before, items):
-        top = clean(self.path(asked) or b"/")
-        still = {clean(opener.fields[0]) for opener in list(self.opened.values())
-                 if opener.name == "OPEN" and opener.fields[1] & WRITE}
-        return [(name, long, {**given, "size": 0} if posixpath.join(top, name) in still else given)
-                for name, long, given in items]
-
-
-class stat_by_path(Attributes):
-    """STAT shows what the last STAT of the path showed, until something else is asked of the path, or through a handle
-    that was opened by it."""
-
-    def __init__(self):
-        super().__init__()
-        self.known = {}
-
-    def ask(self, asked):
-        if asked.name not in LOOKS:
-            for path in paths_of(asked):
-                self.known.pop(path, None)
-            opener = self.opened.get(asked.handle())
-            self.known.pop(opener and clean(opener.fields[0]), None)
-        return [asked]
-
-    def seen(self, asked, given):
-        return self.known.setdefault(clean(asked.fields[0]), given) if asked.name == "STAT" else given
 
 
 class GapKeeps(Asks, Writes):
@@ -373,35 +225,6 @@ class gap_keeps_cut_bytes(GapKeeps):
 
     def cuts(self, asked):
         return sets_size(asked)
-
-
-class gap_keeps_old_bytes(GapKeeps):
-    """A WRITE behind the end leaves in the gap the bytes that the file had before OPEN with TRUNC."""
-
-    def cuts(self, asked):
-        return asked.name == "OPEN" and bool(asked.fields[1] & TRUNC)
-
-
-class lengthened_has_cut_bytes(Asks):
-    """FSETSTAT and SETSTAT of a larger size bring back the bytes that those of a smaller one cut off."""
-
-    def __init__(self):
-        super().__init__()
-        self.before = {}
-
-    def ask(self, asked):
-        if not sets_size(asked):
-            return [asked]
-        path = clean(asked.fields[0] if asked.handle() is None else self.path(asked) or b"/")
-        found, size = self.bytes_now(path), asked.fields[1]["size"]
-        if found is None:
-            return [asked]
-        before, self.before[path] = self.before.get(path, b""), max(found, self.before.get(path, b""), key=len)
-        handle = sftp3.Reply(self.now("OPEN", path, WRITE, {})).handle if len(found) < size else None
-        if handle is None:
-            return [asked]
-        old = before[len(found):size]
-        return [asked, self.another("WRITE", handle, len(found), old[:BLOCK]), self.another("CLOSE", handle)]
 
 
 class name_lost_behind_removal(Meets, Listings):

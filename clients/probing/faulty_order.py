@@ -160,28 +160,10 @@ class open_overtakes_rename(OldPlace):
         return bool(second.fields[1] & sftp3.CREAT) and super().meet(first, second)
 
 
-class making_overtakes_rename(OldPlace):
-    """A MKDIR or SYMLINK is done before the RENAME of its path to another that came just before it."""
-
-    FIRST, SECOND = MOVES, ("MKDIR", "SYMLINK")
-
-    def meet(self, first, second):
-        return clean(first.fields[0]) == clean(second.fields[second.name == "SYMLINK"])
-
-
 class making_overtakes_removal(OldPlace):
     """A MKDIR is done before the RMDIR of its path that came just before it."""
 
     FIRST, SECOND = ("RMDIR",), ("MKDIR",)
-
-
-class rename_overtakes_rename(Pair):
-    """A RENAME is done before the RENAME that came just before it, if it puts something where that took it from."""
-
-    FIRST = SECOND = MOVES
-
-    def meet(self, first, second):
-        return clean(first.fields[0]) == clean(second.fields[1])
 
 
 class further_rename_overtakes(Pair):
@@ -191,25 +173,6 @@ class further_rename_overtakes(Pair):
 
     def meet(self, first, second):
         return clean(first.fields[1]) == clean(second.fields[0])
-
-
-class listing_overtakes_rename(Pair):
-    """An OPENDIR is done before a RENAME into the directory or out of it that came just before it."""
-
-    FIRST, SECOND = MOVES, ("OPENDIR",)
-
-    def meet(self, first, second):
-        return clean(second.fields[0]) in [posixpath.dirname(clean(path)) for path in first.fields]
-
-
-class listing_overtakes_open(Pair):
-    """An OPENDIR is done before an OPEN that makes a file in the directory, or a HARDLINK, that came just before it."""
-
-    FIRST, SECOND = ("OPEN", "HARDLINK"), ("OPENDIR",)
-
-    def meet(self, first, second):
-        path = first.fields[first.name == "HARDLINK"]
-        return posixpath.dirname(clean(path)) == clean(second.fields[0])
 
 
 class replacing_overtakes_open(AtNewPlace):
@@ -228,36 +191,6 @@ class remove_overtakes_open(OldPlace):
 
     def meet(self, first, second):
         return bool(first.fields[1] & sftp3.CREAT) and super().meet(first, second)
-
-
-class look_overtakes_set(OfOneFile):
-    """A STAT or LSTAT is done before a SETSTAT or FSETSTAT of the file that came just before it."""
-
-    FIRST, SECOND = ("SETSTAT", "FSETSTAT"), LOOKS
-
-
-class read_overtakes_write_elsewhere(OfOneFile):
-    """A READ is done before a WRITE through another handle of the file that came just before it."""
-
-    FIRST, SECOND = ("WRITE",), ("READ",)
-
-    def meet(self, first, second):
-        return first.handle() != second.handle() and super().meet(first, second)
-
-
-class write_overtakes_write_elsewhere(OfOneFile):
-    """A WRITE is done before a WRITE through another handle of the file that came just before it."""
-
-    FIRST = SECOND = ("WRITE",)
-
-    def meet(self, first, second):
-        return first.handle() != second.handle() and super().meet(first, second)
-
-
-class close_overtakes_read(OfOneFile):
-    """A CLOSE is done before a READ of the same handle that came just before it."""
-
-    FIRST, SECOND = ("READ",), ("CLOSE",)
 
 
 class look_overtakes_move_of_top(Pair):
@@ -304,61 +237,6 @@ class head_apart_fails(Apart):
 
     def meant(self, count):
         return 4 <= count < 9
-
-
-class end_apart_fails(Fault):
-    """A request fails if its last byte comes alone."""
-
-    def __init__(self):
-        super().__init__()
-        self.numbers = set()
-
-    def begun(self, left):
-        if len(left) >= 9 and sftp3.length(left) == len(left) + 1:
-            self.numbers.add(int.from_bytes(left[5:9], "big"))
-
-    def ask(self, asked):
-        return refused(asked) if asked.number in self.numbers else [asked]
-
-
-class three_pieces_fail(Fault):
-    """A request of less than 4 KiB fails if it comes in three pieces."""
-
-    def __init__(self):
-        super().__init__()
-        self.pieces, self.numbers = [], set()
-
-    def begun(self, left):
-        self.pieces = [piece for piece in self.pieces if left.startswith(piece)] + [left] * bool(left)
-
-    def requests(self, packets):
-        if packets and len([piece for piece in set(self.pieces) if packets[0].startswith(piece)]) >= 2                 and len(packets[0]) < 4096:
-            self.numbers.add(sftp3.decode(packets[0]).number)
-        return super().requests(packets)
-
-    def ask(self, asked):
-        return refused(asked) if asked.number in self.numbers else [asked]
-
-
-class front_behind_whole_fails(Fault):
-    """A request fails if its front comes together with the whole one before it."""
-
-    def __init__(self):
-        super().__init__()
-        self.came, self.fronts, self.numbers = False, [], set()
-
-    def begun(self, left):
-        self.fronts = [left] if left and self.came else []
-        self.came = False
-
-    def requests(self, packets):
-        if packets and self.fronts and packets[0].startswith(self.fronts[0]):
-            self.numbers.add(sftp3.decode(packets[0]).number)
-        self.came = bool(packets)
-        return super().requests(packets)
-
-    def ask(self, asked):
-        return refused(asked) if asked.number in self.numbers else [asked]
 
 
 FAULTS = [fault for fault in list(globals().values())

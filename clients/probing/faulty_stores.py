@@ -3,9 +3,8 @@ than others: directories that are no more than names, names that are alike, copi
 import posixpath
 import unicodedata
 
-import sftp3
-from probing.faulty import Asks, Fault, Listings, clean, is_path, refused
-from probing.faulty_kept import CREAT, EXCL, MOVES, READ, TRUNC, WRITE, is_below, paths_of
+from probing.faulty import Asks, Fault, clean, is_path, refused
+from probing.faulty_kept import CREAT, MOVES, READ, is_below, paths_of
 from probing.faulty_meetings import Refuses
 from probing.faulty_names import Spelled
 
@@ -38,51 +37,6 @@ class Made(Fault):
         return [path for path, name in self.made.items() if name == "MKDIR"]
 
 
-class last_name_takes_directory(Fault):
-    """REMOVE and RMDIR of the last name in a directory remove that, too."""
-
-    def ask(self, asked):
-        top = posixpath.dirname(clean(asked.fields[0])) if asked.name in ("REMOVE", "RMDIR") else b"/"
-        return [asked] + [self.another("RMDIR", top)] * (top != b"/")
-
-
-class last_name_moved_takes_directory(Fault):
-    """RENAME of the last name in a directory to another one removes the directory."""
-
-    def ask(self, asked):
-        top = posixpath.dirname(clean(asked.fields[0])) if asked.name == "RENAME" else b"/"
-        return [asked] + [self.another("RMDIR", top)] * (top != b"/")
-
-
-class directory_makes_directory(Fault):
-    """MKDIR makes the directory that it lacks."""
-
-    def ask(self, asked):
-        top = posixpath.dirname(clean(asked.fields[0])) if asked.name == "MKDIR" else b"/"
-        return [self.another("MKDIR", top, {})] * (top != b"/") + [asked]
-
-
-class files_are_removed_with_directory(Made):
-    """RMDIR of a directory removes the files in it that the session made."""
-
-    def of_made(self, asked):
-        if asked.name != "RMDIR":
-            return [asked]
-        top = clean(asked.fields[0])
-        return [self.another("REMOVE", path) for path in self.made if posixpath.dirname(path) == top] + [asked]
-
-
-class refused_removal_removes(Made):
-    """RMDIR of a directory that is not empty fails, and removes a file in it."""
-
-    def of_made(self, asked):
-        if asked.name != "RMDIR":
-            return [asked]
-        top = clean(asked.fields[0])
-        files = [path for path in self.made if posixpath.dirname(path) == top and self.made[path] != "MKDIR"]
-        return [asked] + [self.another("REMOVE", path) for path in files[:1]]
-
-
 class renamed_alike_too(Made):
     """RENAME of a directory also gives the names beside it that begin with its name the new beginning."""
 
@@ -93,18 +47,6 @@ class renamed_alike_too(Made):
         alike = [path for path in self.made if path.startswith(old) and path != old and not is_below(path, old)
                  and posixpath.dirname(path) == posixpath.dirname(old)]
         return [asked] + [self.another("RENAME", path, new + path[len(old):]) for path in alike]
-
-
-class removed_alike_too(Made):
-    """RMDIR of a directory also removes the empty directories beside it whose names begin with its name."""
-
-    def of_made(self, asked):
-        if asked.name != "RMDIR":
-            return [asked]
-        old = clean(asked.fields[0])
-        alike = [path for path in self.directories() if path.startswith(old) and path != old and not is_below(path, old)
-                 and posixpath.dirname(path) == posixpath.dirname(old)]
-        return [asked] + [self.another("RMDIR", path) for path in alike]
 
 
 class empty_directory_is_not_moved(Made):
@@ -118,17 +60,6 @@ class empty_directory_is_not_moved(Made):
         return [asked] + [self.another("RMDIR", new + path[len(old):]) for path in inside]
 
 
-class links_are_not_moved(Made):
-    """RENAME of a directory loses the links in it."""
-
-    def of_made(self, asked):
-        if asked.name not in MOVES:
-            return [asked]
-        old, new = paths_of(asked)
-        inside = [path for path, name in self.made.items() if name == "SYMLINK" and is_below(path, old)]
-        return [asked] + [self.another("REMOVE", new + path[len(old):]) for path in inside]
-
-
 class inside_is_reset(Made):
     """RENAME of a directory gives the directories in it the permissions 0755."""
 
@@ -138,55 +69,6 @@ class inside_is_reset(Made):
         old, new = paths_of(asked)
         inside = [path for path in self.directories() if is_below(path, old)]
         return [asked] + [self.another("SETSTAT", new + path[len(old):], {"permissions": 0o755}) for path in inside]
-
-
-class FurtherNames(Asks):
-    """Knows the names of files that have two."""
-
-    def __init__(self):
-        super().__init__()
-        self.pairs = set()
-
-    def ask(self, asked):
-        found = self.of_pairs(asked)
-        if asked.name == "HARDLINK":
-            self.pairs |= set(paths_of(asked))
-        if asked.name in MOVES and paths_of(asked)[0] in self.pairs:
-            self.pairs.add(paths_of(asked)[1])
-        return found
-
-    def of_pairs(self, asked):
-        return [asked]
-
-
-class further_name_written_apart(FurtherNames):
-    """OPEN to write of a file with two names gives the name a copy of its own, unless it empties the file."""
-
-    def of_pairs(self, asked):
-        if asked.name == "OPEN" and asked.fields[1] & WRITE and not asked.fields[1] & (TRUNC | EXCL) \
-                and clean(asked.fields[0]) in self.pairs:
-            self.pairs.discard(clean(asked.fields[0]))
-            self.copy_now(clean(asked.fields[0]))
-        return [asked]
-
-
-class further_name_moved_apart(FurtherNames):
-    """RENAME and posix-rename of a name of a file with two make a copy of the file there."""
-
-    def of_pairs(self, asked):
-        if asked.name in MOVES and paths_of(asked)[0] in self.pairs and len(set(paths_of(asked))) == 2:
-            self.copy_now(paths_of(asked)[0])
-        return [asked]
-
-
-class further_name_set_only(FurtherNames):
-    """SETSTAT of a size of a file with two names makes a copy with that size."""
-
-    def of_pairs(self, asked):
-        if asked.name == "SETSTAT" and "size" in asked.fields[1] and clean(asked.fields[0]) in self.pairs:
-            self.pairs.discard(clean(asked.fields[0]))
-            self.copy_now(clean(asked.fields[0]))
-        return [asked]
 
 
 class open_file_moved_apart(Asks):
@@ -219,13 +101,6 @@ class Alike(Fault):
         return name
 
 
-class case_is_alike(Alike):
-    """Names of more than one letter that differ only in case are one."""
-
-    def form(self, name):
-        return name.lower() if len(name) > 1 else name
-
-
 class forms_are_alike(Alike):
     """Names that differ only in their form of Unicode are one."""
 
@@ -243,14 +118,6 @@ class long_names_are_alike(Alike):
         return name[:253] if len(name) == 255 else name
 
 
-class dots_are_alike(Alike):
-    """Names that differ only in what is behind the third byte behind a dot are one, as where endings have three."""
-
-    def form(self, name):
-        before, dot, behind = name.rpartition(b".")
-        return before + dot + behind[:3] if before.strip(b".") and len(behind) > 2 else name
-
-
 class hash_ends_name(Spelled):
     """What is behind a `#` or a `?` inside a name is left out, as in a URL."""
 
@@ -265,13 +132,6 @@ class version_ends_name(Spelled):
     def name(self, name):
         before, _, behind = name.rpartition(b";")
         return before if before and behind.isdigit() else name
-
-
-class blank_at_start_lost(Spelled):
-    """Blanks at the start of a name are left out."""
-
-    def name(self, name):
-        return name.lstrip(b" ") or name
 
 
 class blanks_are_one(Spelled):
@@ -325,21 +185,6 @@ class star_removes_all(Made):
         return [asked] + [self.another("REMOVE", path) for path in self.made if posixpath.dirname(path) == top]
 
 
-class escaped_in_listing(Listings):
-    """A listing shows `&` in a name as `&amp;`."""
-
-    def listed(self, _asked, _before, items):
-        return [(name.replace(b"&", b"&amp;"), long, given) for name, long, given in items]
-
-
-class own_name_is_listed(Listings):
-    """A listing of a directory that the session made has the name of the directory itself."""
-
-    def listed(self, asked, before, items):
-        name = posixpath.basename(clean(self.path(asked) or b"/"))
-        return items if before or not name or name == b"many" else items + [(name, name, items[0][2])]
-
-
 class text_takes_link_away(Fault):
     """`..` behind a link that the session made leads to the directory of the link."""
 
@@ -379,18 +224,12 @@ class long_chain_leads_nowhere(Fault):
         return [asked]
 
 
-class target_from_root(Fault):
-    """A relative target of a link in a directory begins at the root."""
-
-    def __init__(self):
-        super().__init__()
-        self.aims = {}
+class target_loses_slash(Fault):
+    """SYMLINK leaves out slashes at the end of a target."""
 
     def ask(self, asked):
-        if asked.name == "SYMLINK" and not asked.fields[0].startswith(b"/"):
-            self.aims[clean(asked.fields[1])] = b"/" + asked.fields[0]
-        if asked.name in ("STAT", "OPENDIR") or asked.name == "OPEN" and not asked.fields[1] & CREAT:
-            asked.fields[0] = self.aims.get(clean(asked.fields[0]), asked.fields[0])
+        if asked.name == "SYMLINK":
+            asked.fields[0] = asked.fields[0].rstrip(b"/") or asked.fields[0]
         return [asked]
 
 
@@ -409,64 +248,11 @@ class directory_of_link_removed(Made):
         return [asked] + [self.another("RMDIR", aim)] * (aim is not None)
 
 
-class remove_takes_directories(Asks):
-    """REMOVE removes an empty directory."""
-
-    def ask(self, asked):
-        given = self.attributes_now("LSTAT", asked.fields[0]) if asked.name == "REMOVE" else None
-        if given and given["permissions"] & 0o170000 == 0o40000:
-            return [sftp3.Request(asked.number, "RMDIR", asked.fields)]
-        return [asked]
-
-
-class moves_into_directory(Asks):
-    """RENAME of a file to the path of a directory moves it into the directory."""
-
-    def ask(self, asked):
-        if asked.name != "RENAME":
-            return [asked]
-        kinds = [(self.attributes_now("LSTAT", path) or {"permissions": 0})["permissions"] & 0o170000
-                 for path in asked.fields]
-        if kinds == [0o100000, 0o40000]:
-            old, new = paths_of(asked)
-            asked.fields[1] = posixpath.join(new, posixpath.basename(old))
-        return [asked]
-
-
-class link_replaces_link(Asks):
-    """SYMLINK at the path of a link replaces it."""
-
-    def ask(self, asked):
-        given = self.attributes_now("LSTAT", asked.fields[1]) if asked.name == "SYMLINK" else None
-        if given and given["permissions"] & 0o170000 == 0o120000:
-            self.now("REMOVE", asked.fields[1])
-        return [asked]
-
-
 class slash_cannot_be_renamed_to(Refuses):
     """RENAME to a path that ends in a slash fails."""
 
     def refuses(self, asked):
         return asked.name in MOVES and asked.fields[1].endswith(b"/") and bool(asked.fields[1].strip(b"/"))
-
-
-class absent_replaces_file(Asks):
-    """posix-rename of what is not there fails, and removes the file at the new path."""
-
-    def ask(self, asked):
-        if asked.name == "POSIX-RENAME" and not self.attributes_now("LSTAT", asked.fields[0]):
-            self.now("REMOVE", asked.fields[1])
-        return [asked]
-
-
-class refused_rename_moves(Asks):
-    """RENAME to a path that is taken fails, and removes the old name of a file."""
-
-    def ask(self, asked):
-        if asked.name == "RENAME" and self.attributes_now("LSTAT", asked.fields[1]):
-            self.now("REMOVE", asked.fields[0])
-            return refused(asked)
-        return [asked]
 
 
 class full_directory_replaces_none(Made):

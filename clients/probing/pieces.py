@@ -1,13 +1,12 @@
 """Packets that go to a server in two pieces, as a connection may cut them: the first ends in the four bytes of the
-length, a little behind them, or before the last byte, and the second goes once the server has taken the first, or some
-time later."""
+length, or a little behind them, and the second goes once the server has taken the first, or some time later."""
 import array
 import fcntl
 import termios
 import time
 
-# Of so many packets one is cut, by its id; and the bytes that the first pieces have, or lack if they are less than 0.
-EACH, COUNTS = 4, (1, 2, 3, 4, 5, 7, 9, 13, -1)
+# Of so many packets one is cut, by its id; and the bytes that the first pieces have.
+EACH, COUNTS = 4, (1, 2, 3, 4, 5, 7, 9, 13)
 
 # After how many seconds nobody waits any longer. Most servers take a piece at once: so many looks come first, so many
 # seconds apart, and then replies are taken, too.
@@ -24,7 +23,6 @@ class Cuts:
         """How many bytes of a packet go alone, or 0."""
         number = int.from_bytes(packet[5:9], "big")
         count = COUNTS[number // EACH % len(COUNTS)]
-        count += len(packet) if count < 0 else 0
         return count if (number + self.seed) % EACH == 0 and count < len(packet) else 0
 
     def begin(self):

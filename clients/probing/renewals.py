@@ -72,7 +72,6 @@ def passing(p):
     yield p.ask("RMDIR", folder)
     yield p.ask("LSTAT", folder)
     yield p.ask("MKDIR", folder, {})
-    yield p.ask("STAT", folder)
     yield p.ask("CLOSE", listed.opened())
     yield from listing(p, folder, 0)
 
@@ -92,8 +91,9 @@ def further_names(p):
         yield from download(p, path, 5000)
     yield p.ask("SETSTAT", other, {"size": 2000})
     yield p.ask("STAT", path)
-    yield p.ask("SETSTAT", path, {"permissions": 0o604})
-    yield p.ask("STAT", other)
+    for mode in (0, 0o604):
+        yield p.ask("SETSTAT", path, {"permissions": mode})
+        yield p.ask("STAT", other)
 
 
 def moving_reader(p):
@@ -136,8 +136,8 @@ def switching(p):
 
 
 def leading_far(p):
-    """A chain of twelve links; `..` behind a link; a relative target in a directory; links to a directory without
-    names, which RMDIR leaves."""
+    """A chain of twelve links; `..` behind a link; a target that ends in a slash, and one in a directory; a link to a
+    directory without names, which RMDIR leaves."""
     top, inner = p.blank(b"far"), b"/inner"
     yield p.ask("MKDIR", top, {})
     yield p.ask("MKDIR", top + inner, {})
@@ -152,9 +152,9 @@ def leading_far(p):
     yield p.ask("STAT", last)
     yield from download(p, last, 150)
     to_inner = p.blank(b"inside")
-    yield p.ask("SYMLINK", top + inner, to_inner)
+    yield p.ask("SYMLINK", top + inner + (b"" if "slash" in p.skip else b"/"), to_inner)
+    yield p.ask("READLINK", to_inner)
     yield p.ask("STAT", to_inner + b"/../file")
-    yield p.ask("LSTAT", to_inner + b"/../file")
     yield p.ask("SYMLINK", b"file", top + b"/near")
     yield p.ask("STAT", top + b"/near")
     yield p.ask("RMDIR", to_inner, cause="NotDir")
@@ -215,7 +215,8 @@ def listing_again(p):
 # Names that some systems, or the stores behind a server, take for one, or for another.
 ALIKE = [
     b"Case", b"case", b"\xc3\xa9t\xc3\xa9", b"e\xcc\x81te\xcc\x81", b"l" * 254 + b"1", b"l" * 254 + b"2", b"a",
-    b"a#b?c", b"v", b"v;1", b"two blanks", b"two  blanks", b"ends..", b"aux.c", b"long.html", b"long.htm", b"in\\side", b"*",
+    b"a#b?c", b"v", b"v;1", b"two blanks", b"two  blanks", b"ends..", b"aux.c", b"long.html", b"long.htm",
+    b"in\\side", b"*",
 ]
 
 
@@ -257,9 +258,9 @@ def failing_often(p):
     path, folder = p.blank(b"found"), p.blank(b"found.d")
     yield from upload(p, path, Content(p.random, 60))
     yield p.ask("MKDIR", folder, {})
-    for _ in range(104):
+    for _ in range(101):
         yield p.ask("OPEN", path + b".not", READ, {}, cause="NoEntry")
-    for _ in range(64):
+    for _ in range(61):
         yield p.ask("OPENDIR", path, cause="NotDir")
     yield from download(p, path, 60)
     yield from listing(p, folder, 0)
