@@ -167,20 +167,11 @@ def leading_far(p):
 def moving_tree(p):
     """A directory of directories, files and links gets another name: all in it goes with it, as it is, and what is
     beside it stays."""
-    top, new = p.blank(b"branch"), p.blank(b"bough")
-    beside, file = top + b".old", b"/in/file"
-    for path in (top, top + b"/in", top + b"/empty", beside):
-        yield p.ask("MKDIR", path, {})
-    yield p.ask("SETSTAT", top + b"/in", {"permissions": 0o710})
-    yield from upload(p, top + file, Content(p.random, 80))
-    yield p.ask("SETSTAT", top + file, {"permissions": 0o604})
-    yield p.ask("SYMLINK", b"file", top + b"/in/link")
-    for path in (new + file, new + b"/empty"):
-        yield p.ask("LSTAT", path)
-    yield p.ask("LSTAT", new)
+    top, new, file = p.blank(b"branch"), p.blank(b"bough"), b"/in/file"
+    yield from growing(p, top, file)
+    yield from looked_at(p, new + file, new + b"/empty", new)
     yield p.ask("RENAME", top, new)
-    for path in (new + file, new + b"/in", new + b"/empty", beside, top + file):
-        yield p.ask("LSTAT", path)
+    yield from looked_at(p, new + file, new + b"/in", new + b"/empty", top + b".old", top + file)
     yield p.ask("STAT", new + b"/in/link")
     yield from listing(p, new, 2)
     yield p.ask("RMDIR", new + b"/empty")
@@ -192,6 +183,22 @@ def moving_tree(p):
         yield p.ask("MKDIR", path, {})
     yield p.ask("RMDIR", new)
     yield p.ask("LSTAT", new + b".old")
+
+
+def growing(p, top, file):
+    """A directory with two directories in it, of which one has a file and a link, and one beside it whose name begins
+    alike."""
+    for path in (top, top + b"/in", top + b"/empty", top + b".old"):
+        yield p.ask("MKDIR", path, {})
+    yield p.ask("SETSTAT", top + b"/in", {"permissions": 0o710})
+    yield from upload(p, top + file, Content(p.random, 80))
+    yield p.ask("SETSTAT", top + file, {"permissions": 0o604})
+    yield p.ask("SYMLINK", b"file", top + b"/in/link")
+
+
+def looked_at(p, *paths):
+    for path in paths:
+        yield p.ask("LSTAT", path)
 
 
 def listing_again(p):
