@@ -19,12 +19,29 @@ TEXT = random.Random(57).randbytes(1_000_003)
 class Handle:
     """The handle that the reply to this step gives."""
 
+    behind = b""
+
     def __init__(self, step):
         self.step = step
 
 
+class Unlike:
+    """What no reply gave: the handle that the reply to this step gives, with a byte of 0 behind it. It opens nothing in
+    a plan."""
+
+    behind = b"\0"
+
+    def __init__(self, like):
+        self.like = like
+
+
+def opener(handle):
+    """The number of the step whose reply has the bytes that this one begins with, or None."""
+    return getattr(handle, "step", getattr(handle, "like", None))
+
+
 class Step(sftp3.Request):
-    """A request of a plan. A handle in it is a `Handle`, or bytes. Its tags are what `--skip` may name."""
+    """A request of a plan. A handle in it is a `Handle`, an `Unlike`, or bytes. Its tags are what `--skip` may name."""
 
     def __init__(self, number, name, fields, cause=None):
         super().__init__(number, name, fields)

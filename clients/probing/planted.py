@@ -5,6 +5,7 @@
 runs the command, a server without bugs, and stands between it and the client: BUG is the name of a function below that
 changes what passes.
 """
+import itertools
 import os
 import subprocess
 import sys
@@ -19,7 +20,8 @@ class Bug:
     """What a server does right: each change gives packets to pass on."""
 
     def __init__(self):
-        self.names = {}
+        # the requests by their ids, and what leads to the server
+        self.names, self.pipe = {}, None
 
     def opening(self, packet):
         return packet
@@ -243,6 +245,13 @@ def packets_of(data):
     return found, data
 
 
+def write(target, packet):
+    """Writes a whole packet."""
+    view = memoryview(packet)
+    while view:
+        view = view[os.write(target, view):]
+
+
 def pass_on(source, target, change, see=lambda left: None):
     """Passes packets on until the stream ends, those that come together at once. `see` gets what is no whole packet."""
     left = b""
@@ -250,9 +259,7 @@ def pass_on(source, target, change, see=lambda left: None):
     while piece:
         found, left = packets_of(left + piece)
         for packet in change(found):
-            view = memoryview(packet)
-            while view:
-                view = view[os.write(target, view):]
+            write(target, packet)
         see(left)
         piece = os.read(source, 1 << 18)
     os.close(target)
@@ -263,10 +270,11 @@ def run(bug, command):
     server = subprocess.Popen(command, stdin=subprocess.PIPE, stdout=subprocess.PIPE, bufsize=0)
     asked = os.dup(server.stdin.fileno())
     server.stdin.close()
+    bug.pipe = asked
 
     def requests(packets):
         first = [packet for packet in packets if packet[4] == sftp3.INIT]
-        return first + list(bug.requests([packet for packet in packets if packet[4] != sftp3.INIT]))
+        return itertools.chain(first, bug.requests([packet for packet in packets if packet[4] != sftp3.INIT]))
 
     threading.Thread(target=pass_on, args=(0, asked, requests, bug.begun), daemon=True).start()
     pass_on(server.stdout.fileno(), os.dup(1), bug.replies)

@@ -163,12 +163,12 @@ class Player:
         """Asks what may be asked now. A request is recorded before it is sent."""
         while self.waiting and len(self.unanswered) < self.in_flight and not self.far_behind():
             step = self.waiting[0]
-            given = step.fields
-            if hasattr(step.handle(), "step"):
-                if step.handle().step in self.unanswered:
+            given, opener = step.fields, plans.opener(step.handle())
+            if opener is not None:
+                if opener in self.unanswered:
                     return
-                known = self.handles.get(step.handle().step, b"never given %d" % step.handle().step)
-                given = [known] + given[1:]
+                known = self.handles.get(opener, b"never given %d" % opener)
+                given = [known + step.handle().behind] + given[1:]
             self.waiting.popleft()
             if not self.unanswered:
                 self.heard = self.streams.clock.now()
