@@ -150,16 +150,19 @@ def append_and_append(p):
 
 
 def rename_and_make(p):
-    """A file gets another name, as a log does, and a new one is made by its old name; the same of a directory."""
+    """A file gets another name, as a log does, and a new one is made by its old name, three times; the same of a
+    directory."""
     path, _, step = yield from filled(p)
-    new, folder, other = p.blank(b"pair.log"), p.blank(b"pair.top"), p.blank(b"pair.top")
+    folder, other, logs = p.blank(b"pair.top"), p.blank(b"pair.top"), [step]
     yield p.ask("STAT", path)
-    yield p.ask("RENAME", path, new)
-    fresh = p.ask("OPEN", path, WRITE | CREAT, {})
-    yield fresh
-    yield p.ask("WRITE", fresh.opened(), 0, b"a new log")
-    yield p.ask("STAT", new)
-    for one in (step, fresh):
+    for _ in range(3):
+        yield p.ask("RENAME", path, p.blank(b"pair.log"))
+        fresh = p.ask("OPEN", path, WRITE | CREAT, {})
+        yield fresh
+        yield p.ask("WRITE", fresh.opened(), 0, b"a new log")
+        logs.append(fresh)
+    yield p.ask("STAT", path)
+    for one in logs:
         yield p.ask("CLOSE", one.opened())
     yield p.ask("MKDIR", folder, {})
     yield p.ask("MKDIR", folder + b"/in", {})
