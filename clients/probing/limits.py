@@ -121,6 +121,8 @@ class Pool:
         try:
             return self.executor.submit(self.run, task, stop)
         except RuntimeError as error:
+            # the task waits all the same, for a thread that runs
+            self.executor.shutdown(cancel_futures=True)
             raise OSError(errno.EAGAIN, str(error)) from None
 
     def in_order(self, tasks, stop, tick):
