@@ -14,6 +14,7 @@ import threading
 sys.path.insert(0, os.path.dirname(os.path.dirname(os.path.realpath(__file__))))
 
 import sftp3  # noqa: E402 (the folder above is not searched before)
+from sftp3.fields import LONGEST_HANDLE  # noqa: E402
 
 
 class Bug:
@@ -46,6 +47,29 @@ class Bug:
 
     def changed(self, _name, packet):
         return packet
+
+
+class longest_handles(Bug):
+    """Right: handles have as many bytes as the draft allows."""
+
+    def __init__(self):
+        super().__init__()
+        self.handles = {}
+
+    def requests(self, packets):
+        asked = [sftp3.decode(packet) for packet in super().requests(packets)]
+        for one in asked:
+            if one.handle() is not None:
+                one.fields[0] = self.handles.get(one.handle(), b"none")
+        return [sftp3.encode(one) for one in asked]
+
+    def changed(self, _name, packet):
+        handle = sftp3.Reply(packet).handle
+        if handle is None:
+            return packet
+        longest = handle.ljust(LONGEST_HANDLE, b".")
+        self.handles[longest] = handle
+        return sftp3.packet(sftp3.HANDLE, packet[5:9] + sftp3.string(longest))
 
 
 class wrong_byte(Bug):

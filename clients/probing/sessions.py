@@ -168,7 +168,7 @@ class Player:
                 if opener in self.unanswered:
                     return
                 known = self.handles.get(opener, b"never given %d" % opener)
-                given = [known + step.handle().behind] + given[1:]
+                given = [step.handle().of(known)] + given[1:]
             self.waiting.popleft()
             if not self.unanswered:
                 self.heard = self.streams.clock.now()
