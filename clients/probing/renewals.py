@@ -202,8 +202,7 @@ def looked_at(p, *paths):
 
 
 def listing_again(p):
-    """A directory that is listed, and again once the attributes of its entries changed; one that loses names while it
-    is listed."""
+    """A directory that is listed, and again once the attributes of its entries changed."""
     top = p.blank(b"again")
     yield p.ask("MKDIR", top, {})
     for name, size in ((b"/one", 10), (b"/two", 20)):
