@@ -4,13 +4,15 @@ which is where the run is."""
 import json
 import os
 from contextlib import suppress
-from typing import List, Optional
+from typing import List, Optional, Sequence
 
 from nights.records import NEW, Copy, Record, Spool, sync
 
 # The last tree of a record that is being accepted, the tree before one that is being put aside, and which record it is:
 # with this file, the record is kept as soon as its copy has another name than that of a new one.
 NEXT, LAST, WHICH = "tree.next", "tree.last", "record.which"
+# The verdict on a record that is being put aside.
+VERDICT = "record.verdict"
 
 
 def named(record: Record) -> List:
@@ -20,47 +22,73 @@ def named(record: Record) -> List:
     return [record.name, inode]
 
 
-def note(record: Record) -> None:
-    """Has it on the disk which record is being kept."""
-    with open(WHICH, "w", encoding="ascii") as file:
-        json.dump(named(record), file)
+def note(record: Record, place: str) -> None:
+    """Has it on the disk which record is being kept, and where."""
+    write(WHICH, json.dumps([*named(record), place]))
+
+
+def write(name: str, text: str) -> None:
+    """Makes a file, and has it on the disk."""
+    with open(name, "w", encoding="utf-8") as file:
+        file.write(text)
         file.flush()
         os.fsync(file.fileno())
     sync(".")
 
 
+def note_verdict(lines: Sequence[str]) -> None:
+    """Has the verdict on the disk that is to be kept beside the record which is put aside next."""
+    try:
+        write(VERDICT, "".join(f"{line}\n" for line in lines))
+    except OSError:
+        with suppress(FileNotFoundError):
+            os.remove(VERDICT)
+        raise
+
+
+def put_verdict(place: str) -> None:
+    """Puts the verdict beside the record that is kept there, if there is one."""
+    with suppress(FileNotFoundError):
+        os.replace(VERDICT, f"{place}.verdict")
+        sync(os.path.dirname(place))
+
+
 def accept(copy: Copy, after: str, tree: str) -> None:
     """Keeps a record, and makes its last tree the one of the next."""
-    note(copy.record)
+    place = copy.place_in("accepted")
+    note(copy.record, place)
     os.replace(after, NEXT)
     sync(".")
-    keep(copy, "accepted", tree)
+    keep(copy, place, tree)
     os.replace(NEXT, tree)
     os.remove(WHICH)
 
 
 def pass_over(copy: Copy, tree: str) -> None:
     """Keeps a record in which nothing was asked: the next starts from the same tree."""
-    note(copy.record)
-    keep(copy, "accepted", tree)
+    place = copy.place_in("accepted")
+    note(copy.record, place)
+    keep(copy, place, tree)
     tidy()
 
 
-def put_aside(copy: Copy, kind: str, tree: str) -> str:
-    """Keeps a record that is not accepted: what comes behind it has no tree to start from. Returns the name."""
-    note(copy.record)
+def put_aside(copy: Copy, kind: str, tree: str) -> None:
+    """Keeps a record that is not accepted, with the verdict that was noted: what comes behind it has no tree to start
+    from."""
+    place = copy.place_in(kind)
+    note(copy.record, place)
     with suppress(FileNotFoundError):
         os.replace(tree, LAST)
         sync(".")
-    place = keep(copy, kind, tree)
+    keep(copy, place, tree)
+    put_verdict(place)
     tidy()
-    return place
 
 
-def keep(copy: Copy, kind: str, tree: str) -> str:
+def keep(copy: Copy, place: str, tree: str) -> None:
     """Gives the copy its name. If that fails, nothing has happened; what fails behind it, the next run finishes."""
     try:
-        return copy.keep(kind)
+        copy.keep(place)
     except BaseException:
         if os.path.exists(NEW):
             go_back(tree)
@@ -81,17 +109,20 @@ def finish(spool: Spool, tree: str) -> None:
         return
     which = noted()
     for record in spool.records() if which else ():
-        if named(record) == which:
+        if named(record) == which[:2]:
             record.remove()
     if os.path.exists(NEXT):
         os.replace(NEXT, tree)
+    # an earlier version did not note the place
+    for place in which[2:] if which else ():
+        put_verdict(place)
     tidy()
 
 
 def noted() -> Optional[List]:
-    """Which record was being kept, if one was."""
+    """Which record was being kept, and where, if one was."""
     try:
-        with open(WHICH, encoding="ascii") as file:
+        with open(WHICH, encoding="utf-8") as file:
             return json.load(file)
     except (FileNotFoundError, ValueError):
         # the file is empty if the power went before it was on the disk, when nothing else had happened
@@ -100,6 +131,6 @@ def noted() -> Optional[List]:
 
 def tidy() -> None:
     """Removes what is of no more use: first what says that something is to be finished."""
-    for name in (WHICH, NEXT, LAST):
+    for name in (WHICH, NEXT, LAST, VERDICT):
         with suppress(FileNotFoundError):
             os.remove(name)

@@ -78,7 +78,7 @@ class Night:
         if not any(it.partition("=")[0] == "--memory" for it in self.options):
             self.options += ["--memory", str(given.memory)]
         self.spool = Spool(given.records, given.number)
-        self.folders = [os.path.join(os.getcwd(), it) for it in given.folders]
+        self.folders = [os.fsdecode(ways.from_root(os.fsencode(it))) for it in given.folders]
         self.status = self.accepted = self.unanswered = 0
         # when the night is over, and whether a record was looked at in it
         self.until, self.is_begun = time.monotonic() + given.night_seconds, False
@@ -113,8 +113,11 @@ class Night:
     def run_program(self, most, *words, **options):
         """Runs the program with no more memory and time than an audit may take. Returns what it told, at most so many
         lines."""
-        return run([self.program, *words], most, self.given.audit_seconds,
-                        space=max(4 * self.given.memory, LEAST_SPACE), **options)
+        return run([self.program, *words], most, self.given.audit_seconds, space=self.space(), **options)
+
+    def space(self):
+        """The address space that the program may have."""
+        return max(4 * self.given.memory, LEAST_SPACE)
 
     def say_lines(self, lines):
         """Prints lines that belong to the one before them."""
@@ -148,8 +151,8 @@ class Night:
             self.unanswered += bool(unanswered)
             return
         if found.status == 3 and first.startswith("sftpv3: out of memory"):
-            self.give_up(copy, name, f": the audit needs more than {self.given.memory} bytes of memory "
-                         f"(--memory){note}")
+            bound = children.lower_space(self.space()) or f"{self.given.memory} bytes of memory (--memory)"
+            self.give_up(copy, name, f": the audit needs more than {bound}{note}")
             return
         if found.status != 1 and not first.startswith("sftpv3: transcript: "):
             raise Failed(f"{name}: the audit ended with status {found.status}: {' '.join([first, *more]).strip()}")
@@ -176,13 +179,12 @@ class Night:
 
     def put_aside_now(self, copy, kind, verdict):
         """Keeps a record that is not accepted, with its verdict."""
-        place = accepting.put_aside(copy, kind, self.tree)
         try:
             if verdict:
-                with open(f"{place}.verdict", "w", encoding="utf-8") as file:
-                    file.writelines(f"{line}\n" for line in verdict)
+                accepting.note_verdict(verdict)
         except OSError as error:
             self.say(f"  the verdict cannot be kept beside the record: {error.strerror}", 1)
+        accepting.put_aside(copy, kind, self.tree)
 
     def audit_all(self):
         """Audits what has ended, as far as there is a tree to start from. Returns whether something is left: a session
@@ -295,7 +297,8 @@ class Night:
             self.say(f"{self.counted()}; what changed cannot be told within {self.given.audit_seconds:g} seconds", 1)
             return
         if found.status == 3 and found.starts("sftpv3: out of memory"):
-            self.say(f"{self.counted()}; what changed cannot be told with {self.given.memory} bytes (--memory)", 1)
+            bound = children.lower_space(self.space()) or f"{self.given.memory} bytes (--memory)"
+            self.say(f"{self.counted()}; what changed cannot be told with {bound}", 1)
             return
         if found.status not in (0, 1):
             raise Failed(f"sftpv3 diff ended with status {found.status}: {' '.join(found.lines())}")
@@ -394,8 +397,7 @@ class Told:
 
 def within(most: int) -> None:
     """Bounds the address space of this process, as far as the system has no lower bound."""
-    hard = resource.getrlimit(resource.RLIMIT_AS)[1]
-    resource.setrlimit(resource.RLIMIT_AS, (most if hard == resource.RLIM_INFINITY else min(most, hard), hard))
+    resource.setrlimit(resource.RLIMIT_AS, children.bounded(resource.getrlimit(resource.RLIMIT_AS), most))
 
 
 def run(words: Sequence[str], most: int, seconds: float, space: Optional[int] = None, pass_fds=()) -> Told:

@@ -333,15 +333,17 @@ class Copy:
             self.close()
             raise
 
-    def keep(self, kind):
-        """Gives it its name in a folder of the state, and removes the record. Returns the name."""
+    def place_in(self, kind):
+        """A name that is free in a folder of the state, which is made."""
         folder = os.path.join(self.folder, kind)
         os.makedirs(folder, mode=0o700, exist_ok=True)
-        place = self.numbers.free(os.path.join(folder, kept_name(self.record.name)))
+        return self.numbers.free(os.path.join(folder, kept_name(self.record.name)))
+
+    def keep(self, place):
+        """Gives it this name, and removes the record."""
         os.rename(self.place, place)
-        sync(folder)
+        sync(os.path.dirname(place))
         self.record.remove()
-        return place
 
     def close(self):
         """Closes it, and removes it unless it is kept."""

@@ -132,12 +132,18 @@ def check(name):
     return found.st_size
 
 
+class TooLarge(Exception):
+    """The file has more bytes than it may."""
+
+
 def contents(name, most):
     """The bytes of a file, if they are at most so many. No FIFO that comes in its place meanwhile is waited for."""
-    if check(name) > most:
-        raise MemoryError
+    size = check(name)
+    if size > most:
+        raise TooLarge()
     with open(name, "rb", opener=lambda path, flags: os.open(path, flags | os.O_NONBLOCK)) as file:
-        return file.read(most + 1)
+        # as much memory as is read is taken before
+        return file.read(size)
 
 
 def read(name, most):

@@ -8,7 +8,7 @@ planner     the plan of a session: draws scenes, each as often as it says, spell
 features    what `--skip` may name in a plan
 scenes      small scenes that make sense; refusals: requests that some cause refuses
 transfers   large scenes with much data, or with many names or handles; meetings: in which requests meet on one thing;
-            pairs: of requests that depend on the one just before
+            pairs: of requests that depend on the one just before; renewals: that look again at what changed
 pieces      which packets go in pieces, and when the second piece goes
 servers     starts and ends the server, with packets to and from it, and ends what it leaves running
 sessions    plays a plan against a server, and records it
@@ -24,7 +24,8 @@ runs        one run of the probe
 reports     what is printed, kept and reported, also as JUnit; a difference as pages and reports show it
 planted     servers with bugs, for clients/test-probe
 faults      servers with one fault each, for clients/test-probe-faults: faulty_writes, faulty_reads, faulty_names,
-            faulty_replies, faulty_meetings and faulty_order have them, faulty what they are made of
+            faulty_replies, faulty_meetings, faulty_order, faulty_kept, faulty_stores and faulty_handles have them,
+            faulty what they are made of
 misbehaving servers that end, hang and are late, for clients/test-probe-runs
 mutated     mistakes in sessions that are right, for clients/test-profiles
 """

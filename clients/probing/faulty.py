@@ -6,6 +6,7 @@ something else: an empty WRITE is answered with OK, and changes nothing.
 """
 import os
 import posixpath
+import queue
 import struct
 
 import sftp3
@@ -86,10 +87,72 @@ class Fault(planted.Bug):
         return opened.fields[1] if opened and opened.name == "OPEN" else 0
 
 
+class Asks(Fault):
+    """Asks what it needs to know itself, at once, and waits for the reply."""
+
+    # For how many seconds.
+    PATIENCE = 60
+
+    def __init__(self):
+        super().__init__()
+        self.waits = {}
+
+    def requests(self, packets):
+        # one after the other, so that those before have gone when a request of its own goes
+        for packet in packets:
+            for asked in self.one(packet):
+                yield sftp3.encode(asked)
+
+    def of_reply(self, packet):
+        wait = self.waits.pop(int.from_bytes(packet[5:9], "big"), None) if packet[4] != sftp3.VERSION else None
+        if wait:
+            wait.put(packet)
+        return super().of_reply(packet)
+
+    def now(self, name, *fields):
+        """The reply to a request of its own."""
+        asked = self.another(name, *fields)
+        wait = self.waits[asked.number] = queue.SimpleQueue()
+        planted.write(self.pipe, sftp3.encode(asked))
+        return wait.get(timeout=self.PATIENCE)
+
+    def attributes_now(self, name, path_or_handle):
+        """The attributes of something, or None."""
+        reply = self.now(name, path_or_handle)
+        return sftp3.Fields(reply[9:]).attributes() if reply[4] == sftp3.ATTRS else None
+
+    def bytes_now(self, path):
+        """The bytes of the file at a path, or None."""
+        handle = sftp3.Reply(self.now("OPEN", path, sftp3.READ, {})).handle
+        if handle is None:
+            return None
+        found, reply = b"", self.now("READ", handle, 0, BLOCK)
+        while reply[4] == sftp3.DATA:
+            found += data_of(reply)
+            reply = self.now("READ", handle, len(found), BLOCK)
+        self.now("CLOSE", handle)
+        return found
+
+    def copy_now(self, path):
+        """Puts a copy of the file at a path in its place, which has no other name."""
+        found, given = self.bytes_now(path), self.attributes_now("LSTAT", path)
+        if found is None or not given:
+            return
+        self.now("REMOVE", path)
+        handle = sftp3.Reply(self.now("OPEN", path, sftp3.WRITE | sftp3.CREAT | sftp3.EXCL, {})).handle
+        for offset in range(0, len(found), BLOCK):
+            self.now("WRITE", handle, offset, found[offset:offset + BLOCK])
+        self.now("CLOSE", handle)
+        self.now("SETSTAT", path, {"permissions": given["permissions"], "owner": given["owner"]})
+
+
 def status(packet, code):
     """A STATUS with this code, in place of a reply."""
     return sftp3.packet(sftp3.STATUS, packet[5:9] + code + bytes(8))
 
+
+# The bytes of a READ or a WRITE of a fault's own.
+BLOCK = 32768
 
 # Sizes that no fault looks at: those that no file can have.
 FAR = 2 ** 31

@@ -132,6 +132,76 @@ class listing_overtakes_change(Pair):
         return posixpath.dirname(clean(first.fields[0])) == clean(second.fields[0])
 
 
+class OldPlace(Pair):
+    """The second is about the place from which the first takes something."""
+
+    def meet(self, first, second):
+        return clean(first.fields[0]) == clean(second.fields[0])
+
+
+class remove_overtakes_further_name(OldPlace):
+    """A REMOVE of a name is done before the HARDLINK of it that came just before."""
+
+    FIRST, SECOND = ("HARDLINK",), ("REMOVE",)
+
+
+class set_overtakes_rename(AtNewPlace):
+    """A SETSTAT of the new name is done before the RENAME that came just before it."""
+
+    FIRST, SECOND = MOVES, ("SETSTAT",)
+
+
+class open_overtakes_rename(OldPlace):
+    """An OPEN with CREAT is done before the RENAME of its path to another that came just before it."""
+
+    FIRST, SECOND = MOVES, ("OPEN",)
+
+    def meet(self, first, second):
+        return bool(second.fields[1] & sftp3.CREAT) and super().meet(first, second)
+
+
+class making_overtakes_removal(OldPlace):
+    """A MKDIR is done before the RMDIR of its path that came just before it."""
+
+    FIRST, SECOND = ("RMDIR",), ("MKDIR",)
+
+
+class further_rename_overtakes(Pair):
+    """A RENAME is done before the RENAME that came just before it, if it takes something from where that put it."""
+
+    FIRST = SECOND = MOVES
+
+    def meet(self, first, second):
+        return clean(first.fields[1]) == clean(second.fields[0])
+
+
+class replacing_overtakes_open(AtNewPlace):
+    """A posix-rename to a path is done before an OPEN of the path that came just before it."""
+
+    FIRST, SECOND = ("OPEN",), ("POSIX-RENAME",)
+
+    def meet(self, first, second):
+        return clean(first.fields[0]) == clean(second.fields[1])
+
+
+class remove_overtakes_open(OldPlace):
+    """A REMOVE is done before an OPEN with CREAT of the path that came just before it."""
+
+    FIRST, SECOND = ("OPEN",), ("REMOVE",)
+
+    def meet(self, first, second):
+        return bool(first.fields[1] & sftp3.CREAT) and super().meet(first, second)
+
+
+class look_overtakes_move_of_top(Pair):
+    """An OPEN, STAT or LSTAT below a directory is done before the RENAME of the directory that came just before it."""
+
+    FIRST, SECOND = MOVES, ("OPEN", *LOOKS)
+
+    def meet(self, first, second):
+        return any(clean(second.fields[0]).startswith(clean(path) + b"/") for path in first.fields)
+
+
 class Apart(Fault):
     """Refuses requests of which some bytes came alone."""
 
@@ -171,4 +241,4 @@ class head_apart_fails(Apart):
 
 FAULTS = [fault for fault in list(globals().values())
           if isinstance(fault, type) and issubclass(fault, Fault) and fault not in (
-              Apart, AtNewPlace, Fault, OfOneFile, Overtaking, Pair)]
+              Apart, AtNewPlace, Fault, OfOneFile, OldPlace, Overtaking, Pair)]

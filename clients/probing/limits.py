@@ -1,5 +1,6 @@
 """What ends a run early: a signal, a difference with --first, a time that is over; what was played, and how far the
 probe is; and workers, each of which plays and judges one session at a time, side by side with the others."""
+import errno
 import os
 import queue
 import signal
@@ -115,6 +116,15 @@ class Pool:
         finally:
             self.idle.put(worker)
 
+    def begun(self, task, stop):
+        """A task that is to be run. Raises OSError if the system starts no further thread."""
+        try:
+            return self.executor.submit(self.run, task, stop)
+        except RuntimeError as error:
+            # the task waits all the same, for a thread that runs
+            self.executor.shutdown(cancel_futures=True)
+            raise OSError(errno.EAGAIN, str(error)) from None
+
     def in_order(self, tasks, stop, tick):
         """Gives what the tasks return, in their order, whichever ends first; None for those that were stopped. `tick`
         is called now and then. All have ended when this ends."""
@@ -125,7 +135,7 @@ class Pool:
                     task = next(tasks, None)
                     if task is None:
                         break
-                    begun.append(self.executor.submit(self.run, task, stop))
+                    begun.append(self.begun(task, stop))
                 if not begun:
                     return
                 while not futures.wait([begun[0]], timeout=0.5).done:

@@ -87,7 +87,7 @@ def leaving(p):
     yield p.ask("MKDIR", folder if "slash" in p.skip else folder + b"/", {})
     yield p.ask("POSIX-RENAME", folder, path, cause="NotDir")
     yield p.ask("LSTAT", folder)
-    yield p.ask("RENAME", folder, absent)
+    yield p.ask("RENAME", folder, absent if "slash" in p.skip else absent + b"/")
     yield p.ask("LSTAT", absent)
     yield p.ask("POSIX-RENAME", path, path)
     yield p.ask(p.random.choice(["STAT", "REALPATH"]), b"")

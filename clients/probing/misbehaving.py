@@ -178,6 +178,15 @@ class slow(Healthy):
             time.sleep(0.1)
 
 
+class waits_once(Healthy):
+    """The 9th reply takes a second, and then the file of $MARK is there."""
+
+    def before(self, asked):
+        if self.count == 9:
+            with open(os.environ["MARK"], "wb"):
+                time.sleep(1)
+
+
 class wrong_id(Healthy):
     """The 9th reply has an id that no request has."""
 

@@ -7,9 +7,10 @@ import stat
 import textwrap
 
 import sftp3
+from paging import exchanges, packets
 from probing import features, files, program, refusals, sessions, shrinking, verdicts
 from recording.parsers import Parser
-from recording.ways import Way, named_twice, names, text_of
+from recording.ways import Way, from_root, is_inherited, named_twice, names, text_of
 
 # The exit statuses: all sessions were accepted; there are differences; the command line is wrong, or plans nothing; the
 # server, the command of --reset or the program could not be started; no difference was found, and not all was played.
@@ -153,7 +154,7 @@ def parser(about):
     add_of_plans(found.add_argument)
     add_of_run(found.add_argument)
     for option in verdicts.PROFILE_OPTIONS:
-        found.add_argument(option, metavar="WORD", help="for `sftpv3 audit`, if it has this option")
+        found.add_argument(option, metavar="WORD", help=f"as of `sftpv3 audit {option}`")
     found.add_argument("command", nargs="+", help=argparse.SUPPRESS)
     return found
 
@@ -192,18 +193,23 @@ def add_of_run(add):
 
 
 def read(option, name, reader):
-    """What a file has that an option names."""
+    """What a file has that an option names. Of a pipe, that is so only if the process was given it open: nobody may
+    write the others."""
     try:
+        if not is_inherited(name):
+            exchanges.check(name)
         with open(name, "rb") as file:
             return reader(file.read())
-    except (sftp3.Malformed, OSError) as error:
-        raise Wrong(f"{option}: {error}") from error
+    except OSError as error:
+        raise Wrong(f"{option}: {program.told(error)}") from error
+    except (sftp3.Malformed, exchanges.Bad) as error:
+        raise Wrong(f"{option}: {packets.line(name)}: {error}") from error
 
 
 def is_writable_at(path, is_made):
     """Whether this user can write to the folder of a path; with `is_made`, to the last one that is there."""
     with Way() as way:
-        for name in names(os.fsencode(os.path.dirname(path))):
+        for name in names(os.path.dirname(path)):
             place = (*way.place, name)
             try:
                 way.go_through((name,))
@@ -218,7 +224,7 @@ def is_writable_at(path, is_made):
 def can_write(option, name):
     """Refuses what could not be written after all has been played."""
     try:
-        is_fit = is_writable_at(os.path.join(os.getcwd(), name.rstrip("/")), option == "--keep")
+        is_fit = is_writable_at(from_root(os.fsencode(name.rstrip("/"))), option == "--keep")
     except (FileNotFoundError, NotADirectoryError):
         is_fit = False
     except OSError as error:

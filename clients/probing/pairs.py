@@ -6,7 +6,16 @@ from probing.transfers import APPEND, CREAT, READ, TRUNC, WRITE, listing
 
 def side_by_side(p):
     """Each pair whose feature is not left out, in any order."""
-    pairs = [pair for pair, feature in PAIRS.items() if feature not in p.skip]
+    yield from each_of(p, PAIRS)
+
+
+def of_places(p):
+    """The same of those in which something is taken from a place, or put there."""
+    yield from each_of(p, OF_PLACES)
+
+
+def each_of(p, pairs):
+    pairs = [pair for pair, feature in pairs.items() if feature not in p.skip]
     for pair in p.random.sample(pairs, len(pairs)):
         yield from pair(p)
 
@@ -140,9 +149,73 @@ def append_and_append(p):
         yield p.ask("CLOSE", one.opened())
 
 
+def rename_and_make(p):
+    """A file gets another name, as a log does, and a new one is made by its old name, three times; the same of a
+    directory."""
+    path, _, step = yield from filled(p)
+    folder, other, logs = p.blank(b"pair.top"), p.blank(b"pair.top"), [step]
+    yield p.ask("STAT", path)
+    for _ in range(3):
+        yield p.ask("RENAME", path, p.blank(b"pair.log"))
+        fresh = p.ask("OPEN", path, WRITE | CREAT, {})
+        yield fresh
+        yield p.ask("WRITE", fresh.opened(), 0, b"a new log")
+        logs.append(fresh)
+    yield p.ask("STAT", path)
+    for one in logs:
+        yield p.ask("CLOSE", one.opened())
+    yield p.ask("MKDIR", folder, {})
+    yield p.ask("MKDIR", folder + b"/in", {})
+    yield p.ask("RENAME", folder, other)
+    yield p.ask("MKDIR", folder, {})
+    yield p.ask("STAT", other + b"/in")
+    yield p.ask("RMDIR", folder)
+    yield p.ask("MKDIR", folder, {"permissions": 0o700})
+    yield p.ask("STAT", folder)
+
+
+def rename_and_set(p):
+    """A file gets another name, and then permissions, by that; it gets two names one after the other."""
+    path, _, step = yield from filled(p)
+    names = [p.blank(b"pair.name") for _ in range(3)]
+    yield p.ask("RENAME", path, names[0])
+    yield p.ask("SETSTAT", names[0], {"permissions": 0o640})
+    yield p.ask("STAT", names[0])
+    yield p.ask("RENAME", names[0], names[1])
+    yield p.ask("RENAME", names[1], names[2])
+    yield p.ask("STAT", names[2])
+    yield p.ask("HARDLINK", names[2], path)
+    yield p.ask("REMOVE", names[2])
+    yield p.ask("STAT", path)
+    yield p.ask("CLOSE", step.opened())
+
+
+def open_and_replace(p):
+    """A file is opened, and then replaced or removed: the handle has the old one."""
+    path, content, step = yield from filled(p)
+    part = p.blank(b"pair.part")
+    made = p.ask("OPEN", part, WRITE | CREAT, {})
+    yield made
+    yield p.ask("WRITE", made.opened(), 0, content.at(5, 40))
+    for one in (made, step):
+        yield p.ask("CLOSE", one.opened())
+    old = p.ask("OPEN", path, READ, {})
+    yield old
+    yield p.ask("POSIX-RENAME", part, path)
+    yield p.ask("READ", old.opened(), 0, 1000)
+    fresh = p.ask("OPEN", part, READ | WRITE | CREAT, {})
+    yield fresh
+    yield p.ask("REMOVE", part)
+    yield p.ask("LSTAT", part)
+    for one in (old, fresh):
+        yield p.ask("CLOSE", one.opened())
+
+
 # The pairs, each with the feature that it needs, if it does.
 PAIRS = {
     set_and_set: None, cut_and_read: None, link_and_remove: None, rename_and_look: None, change_and_list: None,
     trunc_and_set: "two-handles", read_and_trunc: "two-handles", write_and_look: "two-handles",
     name_and_look: "two-handles", append_and_append: "append",
 }
+
+OF_PLACES = {rename_and_make: None, rename_and_set: None, open_and_replace: None}

@@ -13,7 +13,7 @@ import itertools
 import random
 
 import sftp3
-from probing import features, meetings, pairs, refusals, scenes, transfers
+from probing import features, meetings, pairs, refusals, renewals, scenes, transfers
 from probing.transfers import listing
 from probing.model import DIRECTORY, FILE, LINK, Model, apply
 from probing.plans import Handle, Step
@@ -112,6 +112,19 @@ PERIODS = [
     ("transfers", meetings.giving_far, 7, 3),
     ("transfers", meetings.writing_alike, 7, 5),
     ("transfers", pairs.side_by_side, 3, 0),
+    ("transfers", pairs.of_places, 9, 4),
+    ("transfers", renewals.reading_on, 9, 1),
+    ("transfers", renewals.leaving_gaps, 9, 2),
+    ("transfers", renewals.passing, 9, 4),
+    ("transfers", renewals.further_names, 11, 5),
+    ("transfers", renewals.moving_reader, 11, 3),
+    ("links", renewals.switching, 11, 7),
+    ("links", renewals.leading_far, 11, 4),
+    ("transfers", renewals.moving_tree, 11, 8),
+    ("transfers", renewals.listing_again, 11, 9),
+    ("unusual-names", renewals.alike_names, 15, 7),
+    ("many-handles", renewals.counting, 49, 9),
+    ("many-handles", renewals.failing_often, 49, 21),
 ]
 
 

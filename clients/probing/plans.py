@@ -9,6 +9,7 @@ import struct
 
 import sftp3
 from probing import features
+from sftp3.fields import LONGEST_HANDLE
 
 # Contents are cut out of this text without order, at a place that the plan names, so that no two blocks of a file are
 # alike, and a plan costs no more time and memory than its WRITEs. The length is a prime: no block of a file comes again
@@ -22,9 +23,30 @@ class Handle:
     def __init__(self, step):
         self.step = step
 
+    def of(self, given):
+        """What is sent, if the reply gave this."""
+        return given
+
+
+class Unlike:
+    """What no reply gave: the handle that the reply to this step gives, with a byte of 0 behind it, or another last
+    byte where no handle is longer. It opens nothing in a plan."""
+
+    def __init__(self, like):
+        self.like = like
+
+    def of(self, given):
+        """What is sent, if the reply gave this."""
+        return given + b"\0" if len(given) < LONGEST_HANDLE else given[:-1] + bytes([given[-1] ^ 0x80])
+
+
+def opener(handle):
+    """The number of the step whose reply has the bytes that this one begins with, or None."""
+    return getattr(handle, "step", getattr(handle, "like", None))
+
 
 class Step(sftp3.Request):
-    """A request of a plan. A handle in it is a `Handle`, or bytes. Its tags are what `--skip` may name."""
+    """A request of a plan. A handle in it is a `Handle`, an `Unlike`, or bytes. Its tags are what `--skip` may name."""
 
     def __init__(self, number, name, fields, cause=None):
         super().__init__(number, name, fields)

@@ -5,6 +5,7 @@
 runs the command, a server without bugs, and stands between it and the client: BUG is the name of a function below that
 changes what passes.
 """
+import itertools
 import os
 import subprocess
 import sys
@@ -13,13 +14,15 @@ import threading
 sys.path.insert(0, os.path.dirname(os.path.dirname(os.path.realpath(__file__))))
 
 import sftp3  # noqa: E402 (the folder above is not searched before)
+from sftp3.fields import LONGEST_HANDLE  # noqa: E402
 
 
 class Bug:
     """What a server does right: each change gives packets to pass on."""
 
     def __init__(self):
-        self.names = {}
+        # the requests by their ids, and what leads to the server
+        self.names, self.pipe = {}, None
 
     def opening(self, packet):
         return packet
@@ -44,6 +47,29 @@ class Bug:
 
     def changed(self, _name, packet):
         return packet
+
+
+class longest_handles(Bug):
+    """Right: handles have as many bytes as the draft allows."""
+
+    def __init__(self):
+        super().__init__()
+        self.handles = {}
+
+    def requests(self, packets):
+        asked = [sftp3.decode(packet) for packet in super().requests(packets)]
+        for one in asked:
+            if one.handle() is not None:
+                one.fields[0] = self.handles.get(one.handle(), b"none")
+        return [sftp3.encode(one) for one in asked]
+
+    def changed(self, _name, packet):
+        handle = sftp3.Reply(packet).handle
+        if handle is None:
+            return packet
+        longest = handle.ljust(LONGEST_HANDLE, b".")
+        self.handles[longest] = handle
+        return sftp3.packet(sftp3.HANDLE, packet[5:9] + sftp3.string(longest))
 
 
 class wrong_byte(Bug):
@@ -243,6 +269,13 @@ def packets_of(data):
     return found, data
 
 
+def write(target, packet):
+    """Writes a whole packet."""
+    view = memoryview(packet)
+    while view:
+        view = view[os.write(target, view):]
+
+
 def pass_on(source, target, change, see=lambda left: None):
     """Passes packets on until the stream ends, those that come together at once. `see` gets what is no whole packet."""
     left = b""
@@ -250,9 +283,7 @@ def pass_on(source, target, change, see=lambda left: None):
     while piece:
         found, left = packets_of(left + piece)
         for packet in change(found):
-            view = memoryview(packet)
-            while view:
-                view = view[os.write(target, view):]
+            write(target, packet)
         see(left)
         piece = os.read(source, 1 << 18)
     os.close(target)
@@ -263,10 +294,11 @@ def run(bug, command):
     server = subprocess.Popen(command, stdin=subprocess.PIPE, stdout=subprocess.PIPE, bufsize=0)
     asked = os.dup(server.stdin.fileno())
     server.stdin.close()
+    bug.pipe = asked
 
     def requests(packets):
         first = [packet for packet in packets if packet[4] == sftp3.INIT]
-        return first + list(bug.requests([packet for packet in packets if packet[4] != sftp3.INIT]))
+        return itertools.chain(first, bug.requests([packet for packet in packets if packet[4] != sftp3.INIT]))
 
     threading.Thread(target=pass_on, args=(0, asked, requests, bug.begun), daemon=True).start()
     pass_on(server.stdout.fileno(), os.dup(1), bug.replies)

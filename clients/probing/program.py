@@ -5,6 +5,7 @@ import sys
 from contextlib import suppress
 
 from paging import packets
+from recording import temporary
 
 CLIENTS = os.path.dirname(os.path.dirname(os.path.realpath(__file__)))
 TOP = os.path.dirname(CLIENTS)
@@ -42,6 +43,27 @@ def program():
 def called(name):
     """What a command of clients/ is called: where it is installed, by its name there."""
     return f"clients/{name}" if in_repository() else f"sftpv3-{name}"
+
+
+# Why a name is none that the program takes.
+NO_TEXT = "sftpv3 takes no name that is not UTF-8"
+
+
+def takes(name):
+    """Whether the program takes this name."""
+    try:
+        os.fsencode(name).decode()
+    except UnicodeDecodeError:
+        return False
+    return True
+
+
+def temporary_folder():
+    """The folder for temporary files, if the program takes their names. Raises Unfit if not."""
+    found = temporary.folder()
+    if not takes(found):
+        raise temporary.Unfit(f"{packets.line(found)}: {NO_TEXT} (TMPDIR)")
+    return found
 
 
 def say(text, stream=None):

@@ -6,6 +6,7 @@ Those of a session are known by a variable, or by the process group or session o
 that took care not to be known end with the run, unless they may be what --reset started, which goes on.
 """
 import ctypes
+import errno
 import itertools
 import os
 import selectors
@@ -66,12 +67,19 @@ class Server:
         return Running(started(words, environment), self.leftovers, mark)
 
 
+# Why the system starts no process at all now, whatever it is: too many files, processes or memory are taken.
+OURS = {errno.EMFILE, errno.ENFILE, errno.ENOMEM, errno.EAGAIN}
+
+
 def started(words, environment=None):
-    """The process of a server, in a session of its own, with pipes."""
+    """The process of a server, in a session of its own, with pipes. Raises NotStarted if the command is none, and
+    OSError if this process may start none."""
     try:
         return subprocess.Popen(words, stdin=subprocess.PIPE, stdout=subprocess.PIPE, stderr=subprocess.PIPE, bufsize=0,
                                 env=environment, start_new_session=True)
     except (OSError, ValueError) as error:
+        if getattr(error, "errno", None) in OURS:
+            raise OSError(error.errno, error.strerror, words[0]) from None
         raise NotStarted(f"cannot run {packets.line(words[0])}: {getattr(error, 'strerror', None) or error}") from error
 
 
@@ -173,8 +181,8 @@ def ending(status):
         return f"by signal {-status}"
 
 
-# The most seconds that the system is asked to wait at a time: it takes no number of them.
-AT_ONCE = 3600
+# The most seconds that the system is asked to wait at a time: so it is seen whether this process was stopped meanwhile.
+AT_ONCE = 1
 
 # The most bytes of a packet that are taken in; docs/PROTOCOL.md allows fewer.
 LARGEST = 1 << 20
@@ -215,13 +223,36 @@ BREAK = memoryview(b"")
 TOGETHER = 64
 
 
+# How many seconds a process may be late before it is taken for one that was stopped meanwhile.
+LATE = 1
+
+
+class Clock:
+    """The seconds in which this process could run: not those in which it was stopped, and maybe the server with it, as
+    by a container that is paused."""
+
+    def __init__(self):
+        self.away, self.seen = 0.0, time.monotonic()
+
+    def look(self, waited=0):
+        """To be called when something was waited for, at most so many seconds, and before: what it took longer, the
+        process was stopped."""
+        now = time.monotonic()
+        late = now - self.seen - waited
+        self.away += late if late > LATE else 0
+        self.seen = now
+
+    def now(self):
+        return time.monotonic() - self.away
+
+
 class Streams:
     """Sends packets to a server that runs, and takes those that come. `cuts` says which go in pieces; without it none
     does. `wrong` says of a packet that is too long how long it is."""
 
     def __init__(self, running, cuts=None):
         self.running, self.leaving, self.arrived, self.wrong = running, deque(), Arrived(), None
-        self.cuts = cuts
+        self.cuts, self.clock = cuts, Clock()
         self.selector = selectors.DefaultSelector()
         for stream in (running.process.stdout, running.process.stderr):
             self.selector.register(stream, selectors.EVENT_READ)
@@ -238,7 +269,9 @@ class Streams:
         if blocked:
             self.selector.register(self.running.process.stdin, selectors.EVENT_WRITE)
         seconds = max(0, min(seconds, pieces.GLANCE if held else AT_ONCE))
+        self.clock.look()
         ready = [key.fileobj for key, _ in self.selector.select(seconds)]
+        self.clock.look(seconds)
         if blocked:
             self.selector.unregister(self.running.process.stdin)
         if self.running.process.stderr in ready and not self.running.listen():

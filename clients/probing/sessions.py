@@ -105,7 +105,7 @@ class Player:
         self.left = self.most
         self.streams = servers.Streams(running, None if cut is None else pieces.Cuts(cut))
         # when a reply came that was waited for, or what is waited for was asked
-        self.heard, self.patience = time.monotonic(), timeout * OPENING
+        self.heard, self.patience = self.streams.clock.now(), timeout * OPENING
 
     def record(self, side, packet):
         self.session.records.append((side, packet))
@@ -131,7 +131,7 @@ class Player:
             raise NotStarted(f"the first packet is not right: {error}") from error
         if number != 3:
             raise NotStarted(f"the server speaks version {number}, not 3")
-        self.patience, self.heard = self.timeout, time.monotonic()
+        self.patience, self.heard = self.timeout, self.streams.clock.now()
         announced = {name for name, _ in pairs}
         self.waiting = deque(step for step in self.waiting
                              if sftp3.EXTENSIONS.get(step.name) in announced | {None})
@@ -149,7 +149,7 @@ class Player:
             if packet is None and self.session.end:
                 raise NotStarted(f"no reply to {plans.EXTENSION.decode()} came: {self.session.end}")
         found = plans.answered(packet)
-        self.heard = time.monotonic()
+        self.heard = self.streams.clock.now()
         return found.cut(steps) if found else steps
 
     def play(self):
@@ -163,15 +163,15 @@ class Player:
         """Asks what may be asked now. A request is recorded before it is sent."""
         while self.waiting and len(self.unanswered) < self.in_flight and not self.far_behind():
             step = self.waiting[0]
-            given = step.fields
-            if hasattr(step.handle(), "step"):
-                if step.handle().step in self.unanswered:
+            given, opener = step.fields, plans.opener(step.handle())
+            if opener is not None:
+                if opener in self.unanswered:
                     return
-                known = self.handles.get(step.handle().step, b"never given %d" % step.handle().step)
-                given = [known] + given[1:]
+                known = self.handles.get(opener, b"never given %d" % opener)
+                given = [step.handle().of(known)] + given[1:]
             self.waiting.popleft()
             if not self.unanswered:
-                self.heard = time.monotonic()
+                self.heard = self.streams.clock.now()
             self.asked += 1
             self.unanswered[step.number] = self.asked
             self.give(sftp3.encode(sftp3.Request(step.number, step.name, given)))
@@ -181,7 +181,8 @@ class Player:
 
     def exchange(self):
         """Writes what can be written, and reads what is there; waits until one of both can be done."""
-        left = self.heard + self.patience - time.monotonic()
+        self.streams.clock.look()
+        left = self.heard + self.patience - self.streams.clock.now()
         came = self.streams.exchange(min(left, 0.2))
         if self.stop and self.stop.is_set():
             raise Stopped()
@@ -214,7 +215,7 @@ class Player:
             self.session.end = self.session.end or "a reply is malformed"
             return
         if self.unanswered.pop(reply.number, None):
-            self.heard = time.monotonic()
+            self.heard = self.streams.clock.now()
         else:
             self.unwanted += 1
             if self.unwanted > UNWANTED:

@@ -2,7 +2,7 @@
 nothing to do with it, then entries of the tree, then other requests. Each try is a session of its own; where replies
 race, several are played for one try. All groups share the time that there is; what is not shrunk is kept as it came."""
 import sftp3
-from probing import groups, limits
+from probing import groups, limits, plans
 from probing.sessions import NotStarted, Stopped
 from sftp3 import trees
 
@@ -212,8 +212,8 @@ def names_of(step):
 
 
 def opener(step):
-    """The number of the step that gives the handle of this one, or None."""
-    return getattr(step.handle(), "step", None) if step.name in sftp3.REQUESTS else None
+    """The number of the step that gives the handle of this one, or what begins it, or None."""
+    return plans.opener(step.handle()) if step.name in sftp3.REQUESTS else None
 
 
 def of_handles(steps, last):

@@ -2,6 +2,7 @@
 scenes with many names, unusual names, deep paths and many handles. Each scene has names of its own, directly below the
 root, so that no other scene meets them; `p.blank` makes one."""
 import sftp3
+from probing.model import DIRECTORY
 from probing.plans import Content
 
 
@@ -46,13 +47,14 @@ def new_attributes(p):
 
 
 def upload(p, path, content, flags=WRITE | CREAT | TRUNC):
-    """OPEN, WRITEs of all blocks, and CLOSE, as `put` does; `put -p` sets attributes, too."""
+    """OPEN, WRITEs of all blocks, and CLOSE, as `put` does; `put -p` sets attributes, too, and some clients the size
+    that the file has by then."""
     step = p.ask("OPEN", path, flags, new_attributes(p))
     yield step
     for offset, count in blocks(p, content.size, block_of(p, content.size)):
         yield p.ask("WRITE", step.opened(), offset, content.at(offset, count))
     if p.random.random() < 0.3:
-        yield p.ask("FSETSTAT", step.opened(), p.random.choice(SET_BY_PUT))
+        yield p.ask("FSETSTAT", step.opened(), p.random.choice([*SET_BY_PUT, {"size": content.size}]))
     if p.random.random() < 0.6:
         yield p.ask("FSTAT", step.opened())
     if p.random.random() < 0.3:
@@ -360,7 +362,26 @@ def crowd_of(count):
         for path in p.random.sample(paths, min(count // 3, 12)):
             yield from changing(p, path)
         yield from listing(p, place, count)
+        if count == LOSING:
+            yield from losing(p, place, count)
     return crowd
+
+
+# How many names the directory has that loses some while it is listed: more than most servers give at a time.
+LOSING = 100
+
+
+def losing(p, place, count):
+    """A directory that is listed, and loses a name before each further reply."""
+    names = sorted(p.model.names_in((place[1:],)))
+    step = p.ask("OPENDIR", place)
+    yield step
+    for name in p.random.sample(names, count // NAMES_AT_ONCE + 1):
+        yield p.ask("READDIR", step.opened())
+        is_directory = p.model.at((place[1:], name)).kind == DIRECTORY
+        yield p.ask("RMDIR" if is_directory else "REMOVE", place + b"/" + name)
+    yield p.ask("READDIR", step.opened())
+    yield p.ask("CLOSE", step.opened())
 
 
 def changing(p, path):

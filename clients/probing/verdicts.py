@@ -72,9 +72,8 @@ def bound(process, space):
     """Bounds the address space of a process that runs, as far as the system has no lower bound. None is no bound."""
     if space is not None:
         with suppress(ProcessLookupError):
-            hard = resource.prlimit(process, resource.RLIMIT_AS)[1]
-            soft = space if hard == resource.RLIM_INFINITY else min(space, hard)
-            resource.prlimit(process, resource.RLIMIT_AS, (soft, hard))
+            limits = children.bounded(resource.prlimit(process, resource.RLIMIT_AS), space)
+            resource.prlimit(process, resource.RLIMIT_AS, limits)
 
 
 class Auditor:

@@ -1,11 +1,13 @@
 """Full disks, long packets, lack of memory, commands that cannot run, code of the user."""
 import os
+import pty
 import resource
 import subprocess
+import time
 
 import sftp3
 from record_trials.ends import SOON, whole
-from record_trials.steps import INIT, RECORD, STUB, request
+from record_trials.steps import INIT, RECORD, STUB, ended, errors, open_session, request
 
 
 def run(room, *words, data=b"", **options):
@@ -36,6 +38,43 @@ def commands(steps, room):
         steps.check(f"wrong usage {words}: no traceback", b"Traceback" not in ran.stderr)
     ran = run(room, "t", "/bin/sh", "-c", "echo --help; exit 5", "--plain")
     steps.check("options of the command are the command's", (ran.returncode, ran.stdout) == (5, b"--help\n"), str(ran))
+
+
+# What a client is told that wants something else where ForceCommand starts the recorder.
+ONLY_SFTP = "only SFTP is served here"
+
+
+def forced(asked):
+    """The environment in which ForceCommand starts the recorder in place of this command, or of a shell if None."""
+    over = {"SSH_CONNECTION": "192.0.2.7 4711 192.0.2.1 22"}
+    return {**os.environ, **over, **({"SSH_TTY": "/dev/pts/9"} if asked is None else {"SSH_ORIGINAL_COMMAND": asked})}
+
+
+def other_commands(steps, room):
+    """Clients that want a shell or a command, where ForceCommand starts the recorder: they are told, and end."""
+    silent = {it: room.stub(f"t-{it}", env=forced(asked))
+              for it, asked in (("id", "id"), ("server", "/usr/lib/openssh/sftp-server -u 022"), ("mine", "/opt/mine"))}
+    late = room.stub("t-late", env=forced("/opt/mine -x"))
+    time.sleep(1)
+    steps.check("a server whose name tells nothing: a session is had", len(open_session(late)) == 9)
+    late.stdin.close()
+    steps.check("and recorded", ended(late, SOON) == 0 and room.read("t-late").startswith(b"SFTPTR01C"))
+    ours, theirs = pty.openpty()
+    shell = room.stub("t-shell", stdin=theirs, env=forced(None))
+    for name, process in (("id", silent["id"]), ("a shell", shell)):
+        steps.check(f"{name}, of a client that says nothing: it ends", ended(process, 20) not in (None, 0))
+        steps.check(f"{name}: a line says that only SFTP is served", ONLY_SFTP in errors(process))
+    steps.check("and nothing is recorded", not {"t-id", "t-shell"} & set(os.listdir(room.folder)))
+    steps.check("a client that asked for SFTP and says nothing is waited for", silent["server"].poll() is None)
+    for data in (b"", b"hi\n"):
+        ran = run(room, "--overwrite", "t", STUB, data=data, env=forced("cat -n"))
+        steps.check(f"a command to which {data!r} is sent: its client is told", ran.returncode != 0 and
+                    ONLY_SFTP.encode() in ran.stderr and ran.stdout == b"", str(ran))
+    over = {**os.environ, "SSH_CONNECTION": "192.0.2.7 1 192.0.2.1 2"}
+    ran = run(room, "--overwrite", "t", STUB, data=b"", env=over)
+    steps.check("a subsystem to which nothing is sent: no word", ran.returncode == 0 and ran.stderr == b"", str(ran))
+    os.close(ours)
+    os.close(theirs)
 
 
 def files_named_twice(steps, room):
@@ -169,4 +208,4 @@ def foreign_code(steps, room):
     steps.check("no code of the user runs in the recorder", not found and ran.stdout == INIT, f"{found} {ran}")
 
 
-TRIALS = (commands, files_named_twice, full_disks, long_packets, little_memory, foreign_code)
+TRIALS = (commands, other_commands, files_named_twice, full_disks, long_packets, little_memory, foreign_code)

@@ -14,6 +14,7 @@ signals   the module `signal`, quickly imported
 server    the server's process: its start, its end, its status
 auditing  an audit that reads along
 sessions  the loop that passes packets on, how it ends, and what the client of a session that ends still awaits
+forced    what ForceCommand put the recorder in the place of
 keeping   the daemon that keeps records in a spool, and what each user has of one
 options   the commands
 ending    signals that end other scripts in order

@@ -126,7 +126,7 @@ def open_stream(place, is_wanted):
             break
         except OSError as error:
             if error.errno != errno.ENXIO or time.monotonic() > end or not is_wanted():
-                raise
+                raise OSError(error.errno, error.strerror, place.path) from None
         time.sleep(0.02)
     found = os.fstat(file)
     if not (is_of_stream(found) and is_trusted(place, found)):

@@ -7,7 +7,7 @@ import pwd
 import sys
 import time
 
-from recording import naming
+from recording import forced, naming
 from recording.notices import Notices, write_error
 from recording.packets import OPENING
 from recording.server import NotStarted, start
@@ -226,29 +226,25 @@ def play(session):
     return session.run()
 
 
-# How scp's older protocol tells its client of an error: this byte, and a line.
-SCP_ERROR = b"\1"
-
-
-def is_scp(environment):
-    """Whether ForceCommand put the recorder in the place of scp's older protocol, whose client would wait for ever."""
-    words = environment.get("SSH_ORIGINAL_COMMAND", "").split()
-    return bool(words) and os.path.basename(words[0]) == "scp"
-
-
-def refuse_scp():
-    os.write(1, SCP_ERROR + b"scp: only SFTP is served here: use scp without -O, or sftp\n")
-    return OWN_FAILURE
-
-
 def record_session(options):
-    if is_scp(os.environ):
-        return refuse_scp()
+    """Records a session, unless ForceCommand put the recorder in the place of something else than SFTP."""
+    other = forced.other(os.environ)
+    if other and other.is_refused():
+        return OWN_FAILURE
+    status, count = record_any(options)
+    if other and not count:
+        other.refuse()
+        return status or OWN_FAILURE
+    return status
+
+
+def record_any(options):
+    """Records a session. Gives its status, and how many packets the client sent."""
     signals = Signals()
     notices = open_notices(options)
     records = Records(options, notices, signals)
     if not records.open():
-        return OWN_FAILURE
+        return OWN_FAILURE, 1
     warning = shell_warning() if options.required else None
     if warning:
         notices.say(warning)
@@ -257,7 +253,7 @@ def record_session(options):
     except NotStarted as error:
         records.take_back()
         notices.say(str(error))
-        return error.status
+        return error.status, 1
     change = None
     if options.plain:
         from recording.packets import plain as change
@@ -269,7 +265,7 @@ def record_session(options):
     status = play(session)
     if session.audit:
         session.audit.finish()
-    return status
+    return status, session.asked.packets
 
 
 def run(act, name):

@@ -191,6 +191,11 @@ class Way:
             pass
 
 
+def from_root(path: bytes) -> bytes:
+    """The path from the root on. Only one that begins where the process is asks where that is: it may be gone."""
+    return path if path.startswith(b"/") else os.path.join(os.fsencode(os.getcwd()), path)
+
+
 def way_of(path: bytes, given: str) -> Way:
     """The beginning of the way that a path has."""
     return Way(b"/" if path.startswith(b"/") else b".", given)
@@ -310,9 +315,8 @@ def location_of(name: str) -> Location:
 def led_to(name: str) -> tuple[Location, bool]:
     """So where a name leads, whose last part may be a link, too; and whether it is one. What is called so is a whole
     path without links."""
-    path = os.path.join(os.fsencode(os.getcwd()), checked(name))
     with Way(given=name) as way:
-        last = way.lead_before_last(path, True)
+        last = way.lead_before_last(from_root(checked(name)), True)
         found = Location(os.dup(way.held[-1]), os.fsdecode(last), text_of((*way.place, last)))
         found.above = way.seen()
         return found, way.is_led_on
@@ -399,7 +403,7 @@ def looked_at(name: str) -> list[Seen]:
     way."""
     with Way() as way:
         try:
-            last = way.lead_before_last(os.path.join(os.fsencode(os.getcwd()), os.fsencode(name)), False)
+            last = way.lead_before_last(from_root(os.fsencode(name)), False)
             held = way.hold(last, (*way.place, last))
             behind = text_of((*way.place, last)), os.fstat(held), False
             os.close(held)
@@ -434,13 +438,21 @@ def is_one_file(one: str, other: str) -> bool:
     try:
         (place, found), (further, state) = end_of(one), end_of(other)
     except FileNotFoundError:
-        # a folder is not there
-        return os.path.abspath(one) == os.path.abspath(other)
+        # a folder is not there, of one name or where the process is
+        return parts_of(one) == parts_of(other)
     except OSError:
         return False
     if found is None or state is None:
         return place == further
     return stat.S_ISREG(found.st_mode) and (found.st_dev, found.st_ino) == (state.st_dev, state.st_ino)
+
+
+def parts_of(name: str) -> str:
+    """A name as text says where it leads."""
+    try:
+        return os.path.abspath(name)
+    except FileNotFoundError:
+        return os.path.normpath(name)
 
 
 def end_of(name: str) -> tuple[str, os.stat_result | None]:

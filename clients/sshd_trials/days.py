@@ -271,6 +271,14 @@ def try_forced(steps, where, nightly):
         steps.check("ForceCommand: it is recorded and accepted", status == 0 and is_accepted(said, 1), said)
     run(["ssh", *OPTIONS, f"{where.user}@127.0.0.1", f"touch {where.seen}/by-shell"], stdin=subprocess.DEVNULL)
     steps.check("ForceCommand: no other command is run", not (where.real / "by-shell").exists())
+    for words in ([], ["-tt"]):
+        with subprocess.Popen(["sleep", "60"], stdout=subprocess.PIPE) as silent:
+            ran = run(["timeout", "20", "ssh", *OPTIONS, *words, f"{where.user}@127.0.0.1", *["id"] * (not words)],
+                      stdin=silent.stdout)
+            silent.kill()
+        steps.check(f"ForceCommand: {'a shell' if words else 'a command'} is told so, and its client does not wait",
+                    ran.returncode not in (0, 124) and "only SFTP is served here" in ran.stdout,
+                    f"{ran.returncode}: {ran.stdout}")
     for words in ([where.large, f"{where.user}@127.0.0.1:forced"], [f"{where.user}@127.0.0.1:forced", "/dev/null"]):
         ran = run(["timeout", "20", "scp", "-O", *OPTIONS, *words], stdin=subprocess.DEVNULL)
         steps.check("ForceCommand: scp without SFTP is told so, and does not wait", ran.returncode not in (0, 124) and

@@ -143,6 +143,25 @@ def try_no_room(steps, folder):
                 "unchanged\n", f"{status}: {said}")
 
 
+# It does so too, and another walk to the same tree begins to write meanwhile.
+BESIDE = WRITING.replace("echo $$", """sh -c 'exec 9>"$0"; exec sleep 600' "$place.new-00000000000000ee" &
+echo dead >"$place.new-00000000000000dd"
+while ! [ -e "$place.new-00000000000000ee" ]; do sleep 0.1; done
+echo $$""").replace("sh -c", "setsid sh -c")
+
+
+def try_beside(steps, folder):
+    """What another process writes at the same time beside the same tree is not removed; what nobody writes is."""
+    room = os.path.join(folder, "beside")
+    os.mkdir(room)
+    program = {"SFTPV3": executable(os.path.join(folder, "writing-beside"), BESIDE)}
+    words = [WALK, "--to", os.path.join(room, "seen.tree"), "--", *HOSTILE, "Right"]
+    status, said, *_ = signalled(folder, words, signal.SIGTERM, program)
+    steps.check("an unfinished file of another walk stays, those that nobody writes go", status == 143 and
+                os.listdir(room) == ["seen.tree.new-00000000000000ee"], f"{status}: {said} {os.listdir(room)}")
+    shutil.rmtree(room)
+
+
 def try_unfinished(steps, folder):
     """A signal while the tree is written leaves no part of it, and of others what they have."""
     room = os.path.join(folder, "unfinished")

@@ -329,6 +329,15 @@ class marks_and_hangs(Right):
             time.sleep(600)
 
 
+class marks_and_waits(Right):
+    """It waits for a second with its reply, and then the file of $MARK is there."""
+
+    def opendir(self, path):
+        with open(os.environ["MARK"], "wb"):
+            time.sleep(1)
+        return super().opendir(path)
+
+
 class marks_and_hangs_at_start(Right):
     def realpath(self, path):
         with open(os.environ["MARK"], "wb"):

@@ -95,6 +95,10 @@ TOLD = [
 ]
 
 
+# A name that is no UTF-8, and why no tree is written there: the program takes no such name.
+OTHER, NO_TEXT = os.fsdecode(b"x\xff"), "sftpv3 takes no name that is not UTF-8"
+
+
 def limit():
     resource.setrlimit(resource.RLIMIT_AS, (MEMORY, MEMORY))
     resource.setrlimit(resource.RLIMIT_CPU, (ENDLESS, ENDLESS))
@@ -278,6 +282,30 @@ def try_signals(steps, folder):
                 f"{status}: {said}")
 
 
+def try_pause(steps, folder):
+    """Where all is stopped for longer than a reply may take, as in a container that is paused, no server is blamed."""
+    probe = [os.path.join(TOP, "clients", "probe"), "--seeds", "1", "--jobs", "1", "--timeout", "4", "--keep", "kept"]
+    waits = [sys.executable, os.path.join(TOP, "clients", "probing", "misbehaving.py"), "waits_once", program(),
+             "serve", "--tree", "{tree}"]
+    for words in ([WALK, "--timeout", "4", "--to", "seen.tree", "--", *HOSTILE, "marks_and_waits"],
+                  [*probe, "--", *waits]):
+        mark = os.path.join(tempfile.mkdtemp(dir=folder), "mark")
+        with subprocess.Popen(words, cwd=folder, env={**os.environ, "MARK": mark}, stdin=subprocess.DEVNULL,
+                              stdout=subprocess.PIPE, stderr=subprocess.STDOUT) as running:
+            wait_until(lambda: os.path.exists(mark) or running.poll() is not None)
+            others = [it for it in processes_of(mark) if it != running.pid]
+            for it in (running.pid, *others):
+                os.kill(it, signal.SIGSTOP)
+            time.sleep(6)
+            os.kill(running.pid, signal.SIGCONT)
+            time.sleep(0.5)
+            for it in others:
+                os.kill(it, signal.SIGCONT)
+            said = running.communicate(timeout=HUNG)[0].decode(errors="replace")
+        steps.check(f"{os.path.basename(words[0])}: all is stopped for 6 seconds, where replies have 4: none is late",
+                    running.returncode == 0 and others, f"{running.returncode}: {said}")
+
+
 # A walk that gets SIGTERM when `infer` has ended.
 LATE = """
 import os, runpy, signal, subprocess, sys
@@ -359,6 +387,18 @@ def no_files():
     resource.setrlimit(resource.RLIMIT_FSIZE, (0, 0))
 
 
+def try_soft_limit(steps, folder):
+    """A limit of the system that is lower than --memory is kept, also a soft one, and is what is named."""
+    greedy = {"env": {**os.environ, "SFTPV3": executable(os.path.join(folder, "greedy-too"), GREEDY)}}
+    for hard in (200 << 20, resource.RLIM_INFINITY):
+        status, said = run([WALK, "--to", "x", "--", *HOSTILE, "Right"], folder, **greedy,
+                           preexec_fn=lambda: resource.setrlimit(resource.RLIMIT_AS, (200 << 20, hard)))
+        steps.check(f"ulimit -v 200 MiB, {'soft' if hard < 0 else 'hard'}: infer gets no more, and that is said",
+                    status == 3 and is_clean(said) and "--memory" not in said and
+                    "`sftpv3 infer` needs more than the system's limit of 209,715,200 bytes (ulimit -v)" in said,
+                    f"{status}: {said}")
+
+
 def try_full_disk(steps, folder):
     """Where no file can be written, a walk and a probe fail: they do not tell of a tree or of differences."""
     probe = [os.path.join(TOP, "clients", "probe"), "--", program(), "serve", "--tree", "{tree}"]
@@ -374,10 +414,38 @@ def try_mistakes(steps, folder):
             (["--to", "x"], ["nowhere"], "cannot run nowhere: No such file or directory"),
             (["--to", "x"], [folder], f"cannot run {folder}: Permission denied"),
             (["--to", folder], ["touch", "started"], f"cannot write {folder}: not a regular file"),
-            (["--to", "nodir/x"], ["touch", "started"], "cannot write nodir/x: there is no folder nodir")):
+            (["--to", "nodir/x"], ["touch", "started"], "cannot write nodir/x: there is no folder nodir"),
+            (["--to", OTHER], ["touch", "started"], rf"cannot write x\xff: {NO_TEXT}"),
+            (["--to", "x", "--session", OTHER], ["touch", "started"], rf"cannot write x\xff: {NO_TEXT}")):
         status, said = walk(folder, options, command)
         steps.check(wanted, status == 3 and said == f"walk: {wanted}\n", f"{status}: {said}")
+    os.makedirs(os.path.join(folder, OTHER), exist_ok=True)
+    status, said = run([WALK, "--to", "x", "--", "touch", "started"], folder,
+                       env={**os.environ, "TMPDIR": os.path.join(folder, OTHER)})
+    steps.check("TMPDIR that is no UTF-8: status 3, and why", status == 3 and NO_TEXT in said and
+                said.count("\n") == 1, f"{status}: {said}")
     steps.check("nothing was started", not os.path.exists(os.path.join(folder, "started")))
+    status, said = walk(folder, ["--session", OTHER + "/s"], [*HOSTILE, "Right"])
+    steps.check("--session alone may have any name", status == 0 and r"x\xff/s: " in said, f"{status}: {said}")
+
+
+def try_no_folder(steps, folder):
+    """Where the current folder is gone, whole names lead to where they did."""
+    to, sent = os.path.join(folder, "whole.tree"), [*HOSTILE, "Right"]
+    live = os.path.join(folder, "looked-at")
+    os.mkdir(live)
+    session = os.path.join(TOP, "examples", "wrong-byte.transcript")
+    for name, words, wanted, what in (
+            ("walk", ["--to", to, "--", *sent], 0, "inferred"), ("tree", ["--out", to, live], 0, " entries"),
+            ("walk", ["--to", "seen.tree", "--", *sent], 3, "cannot write seen.tree: there is no folder ."),
+            ("page", [session, "-o", "x.html"], 3, "No such file"), ("page", ["x", "-o", "y"], 3, "x: No such file"),
+            ("page", ["x", "-o", "./x"], 2, "name one file")):
+        gone = tempfile.mkdtemp(dir=folder)
+        line = ["sh", "-c", 'rmdir "$PWD" && exec "$@"', "sh", "/usr/bin/python3", "-B",
+                os.path.join(TOP, "clients", name), *words]
+        status, said = run(line, gone)
+        steps.check(f"{name} {' '.join(words[:3])}, the current folder is gone: {what}", status == wanted and
+                    what in said and "Traceback" not in said, f"{status}: {said}")
 
 
 def try_names(steps, folder):

@@ -6,6 +6,7 @@ from collections import deque
 
 import sftp3
 from probing import servers, verdicts
+from recording import children
 from walking import bounds
 from walking.bounds import Misbehaves, shown
 from walking.sessions import DIRECTORY, FILE, LINK, kind_of
@@ -260,8 +261,9 @@ def why_wrong(program, words, folder):
 def why_too_large(lines, memory):
     """Why no tree is made of a session that tells too much, behind what the program says of it. Its limit of paths goes
     by the length of the record alone."""
+    bound = children.lower_space(max(memory, LEAST_SPACE)) or f"{memory:,} bytes of memory (--memory)"
     needs = ("has no room for the paths of the session" if any(line.startswith("no tree: the paths ") for line in lines)
-             else f"needs more than {memory:,} bytes of memory (--memory)")
+             else f"needs more than {bound}")
     return "; ".join([f"`sftpv3 infer` {needs}", *lines])
 
 

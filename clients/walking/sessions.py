@@ -1,6 +1,5 @@
 """A session with a server: asks what tasks want, many requests at a time, and records all that passes; and what a reply
 says."""
-import time
 from collections import deque
 
 import sftp3
@@ -55,7 +54,7 @@ class Session:
         self.ended = False
         # how the server ended, once it was let end: None if it had to be stopped
         self.status = None
-        self.timeout, self.patience, self.heard = timeout, timeout * OPENING, time.monotonic()
+        self.timeout, self.patience, self.heard = timeout, timeout * OPENING, self.streams.clock.now()
         record.begin(sftp3.OPENING)
 
     def give(self, packet):
@@ -71,7 +70,8 @@ class Session:
             raise Misbehaves(f"the requests and replies of the session have more than {self.most:,} bytes")
 
     def exchange(self):
-        left = self.heard + self.patience - time.monotonic()
+        self.streams.clock.look()
+        left = self.heard + self.patience - self.streams.clock.now()
         came = self.streams.exchange(min(left, GLANCE) if self.stop else left)
         if self.stop and self.stop.is_set():
             raise servers.Stopped()
@@ -111,7 +111,7 @@ class Session:
             raise Misbehaves(f"the first packet of the server is not right: {error}") from None
         if number != 3:
             raise Misbehaves(f"the server speaks version {number}, not 3")
-        self.patience, self.heard = self.timeout, time.monotonic()
+        self.patience, self.heard = self.timeout, self.streams.clock.now()
         for packet in found[1:]:
             self.take(packet)
 
@@ -151,7 +151,7 @@ class Session:
         while self.waiting and len(self.unanswered) < self.in_flight and not self.far_behind():
             task, place, request = self.waiting.popleft()
             if not self.unanswered:
-                self.heard = time.monotonic()
+                self.heard = self.streams.clock.now()
             self.asked += 1
             self.unanswered[self.asked] = task, place
             self.give(sftp3.encode(sftp3.Request(self.asked, request.name, request.fields)))
@@ -178,7 +178,7 @@ class Session:
             if self.unwanted > UNWANTED:
                 raise Misbehaves(bounds.to_no_request(self.unwanted))
             return
-        self.heard = time.monotonic()
+        self.heard = self.streams.clock.now()
         self.denied += reply.code == sftp3.PERMISSION_DENIED
         if task.take(place, reply):
             self.go_on(task, task.replies)
