@@ -165,7 +165,7 @@ impl<'a> Failure<'a> {
     pub fn reading(name: &'a str, error: &io::Error) -> Failure<'a>
         ensures memory { error_kind error.now ≡ kinds.OutOfMemory → result ≡ failures.OutOfMemory }
         ensures file { error_kind error.now ≢ kinds.OutOfMemory → IsUnreadFile name.now result }
-        ensures either { IsUnread result }
+        ensures unread { IsUnread result }
         ensures status { failure_status result ≡ 3 }
     {
         match error.kind() {
@@ -178,7 +178,7 @@ impl<'a> Failure<'a> {
     pub fn writing(name: &'a str, error: &io::Error) -> Failure<'a>
         ensures memory { error_kind error.now ≡ kinds.OutOfMemory → result ≡ failures.OutOfMemory }
         ensures file { error_kind error.now ≢ kinds.OutOfMemory → IsUnwrittenFile name.now result }
-        ensures either { IsUnwritten result }
+        ensures unwritten { IsUnwritten result }
     {
         match error.kind() {
             io::ErrorKind::OutOfMemory => Failure::OutOfMemory,
@@ -190,7 +190,7 @@ impl<'a> Failure<'a> {
     pub fn replacing(name: &'a str, error: &io::Error) -> Failure<'a>
         ensures memory { error_kind error.now ≡ kinds.OutOfMemory → result ≡ failures.OutOfMemory }
         ensures file { error_kind error.now ≢ kinds.OutOfMemory → IsUnreplacedFile name.now result }
-        ensures either { IsUnwritten result }
+        ensures unwritten { IsUnwritten result }
     {
         match error.kind() {
             io::ErrorKind::OutOfMemory => Failure::OutOfMemory,

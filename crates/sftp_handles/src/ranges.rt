@@ -11,7 +11,7 @@ use crate::opens::Open;
 use crate::sessions::Session;
 use crate::tables::HandleTable;
 use sftp_tree::FileNo;
-use sftp_wire::{Ask, Request};
+use sftp_wire::{Ask, Request, ends_within};
 
 impl ByteRange {
     /// Whether both are ranges of one file and have no byte in common. An empty range has none in common with any. Does
@@ -38,10 +38,7 @@ impl Span {
     pub fn within(self, file: FileNo, size: u64) -> Option<ByteRange>
         ensures { result ≡ ranges.range_within file size (ends_of (Some self)) }
     {
-        if self.start > size {
-            return None;
-        }
-        if self.count > size - self.start {
+        if !ends_within(self.start, self.count, size) {
             return None;
         }
         Some(ByteRange {

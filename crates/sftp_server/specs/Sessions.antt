@@ -1,7 +1,7 @@
 -- A session of the server while it runs: what it read, wrote and logged since it began, and which requests it has
 -- (draft-ietf-secsh-filexfer-02, sections 3 to 7). Words of private contracts: no public one reaches this file.
 use Rattle.std.specs.Prelude.{◌==◌, ◌&&◌, ◌||◌, ◌≤◌, not, ℕ, Bool, false, Option, Some, None, ◌≡◌, ◌≢◌, ◌⊎◌, List, []}
-use Rattle.std.specs.Prelude.{◌++◌, length, Result, Err, MatchResult, IfErr, IsTrue, drop}
+use Rattle.std.specs.Prelude.{◌++◌, length, Result, Err, MatchResult, IsTrue, drop}
 use Rattle.sftp_packets.specs.declared.requests.Ask.{Ask}
 use Rattle.sftp_handles.specs.declared.byte_range.ByteRange.{ByteRange}
 use Rattle.sftp_handles.specs.State.{State, Good, started, closed_tree}
@@ -38,7 +38,7 @@ use Rattle.sftp_server.specs.Machine.{Machine, is_unsent}
 use Rattle.sftp_server.specs.Machine.{IsReached}
 use Rattle.sftp_server.specs.Served.{session_packets, sent_by, recorded, IsGreeting, answered_last, BeginsWithId}
 use Rattle.sftp_server.specs.Served.{BeginsWithInit, EndsSession, StreamBytes, stream_bytes, Passed}
-use Rattle.sftp_server.specs.Served.{Setup, ServesFrom, is_same_stream, failures_if}
+use Rattle.sftp_server.specs.Served.{Setup, ServesFrom, CountsEnd}
 use Rattle.sftp_server.specs.Left.{Leaves, LeavesFrom}
 
 -- ==== What the requests of a queue touch, and where. What a request touches and its span stay while requests are done
@@ -154,16 +154,15 @@ tree_left core = Some (closed_tree core.state)
 
 -- the failures of a stream after a session stopped: one more if the stream is why, and no more if not
 abbrev pub CountsStop : Stream → Stop → ℕ → ℕ → Type 0
-CountsStop stream (stops.Io failed) old new = new ≡ failures_if (is_same_stream stream failed) old
-CountsStop stream stops.NoMemory old new = new ≡ old
+CountsStop stream stop old new = CountsEnd stream (ended_by stop) old new
 
 -- the same of a call, which may not stop the session
 abbrev pub CountsCall : {A : Type 0} → Stream → Result A Stop → ℕ → ℕ → Type 0
 CountsCall stream result old new = MatchResult result (λ _. new ≡ old) (λ stop. CountsStop stream stop old new)
 
--- the call does not stop the session because of this stream
+-- the call does not stop the session because of this stream: however often that failed, it is counted so
 abbrev pub Spares : {A : Type 0} → Stream → Result A Stop → Type 0
-Spares stream result = IfErr result (λ stop. stop ≢ stops.Io stream)
+Spares stream result = (count : ℕ) → CountsCall stream result count count
 
 -- each call on the log's stream succeeded so far, and the log has a record
 pub record IsLogging (log : Log) : Type 0 where

@@ -1,5 +1,5 @@
 //! The queue of a server: its requests from the first unanswered one on.
-ghost use Rattle.std.specs.Prelude.{◌≡◌, ◌≤◌, ◌++◌, [], ◌∷◌, IsTrue, false, length};
+ghost use Rattle.std.specs.Prelude.{◌≡◌, ◌≤◌, ◌↔◌, ◌++◌, [], ◌∷◌, IsTrue, false, length};
 ghost use Rattle.std.specs.Prelude.{IfErr, OnOk, OnErr, IfSome, IfNone, is_some, option_copied, slice_get};
 ghost use Rattle.std.specs.Option.{option_map};
 ghost use Rattle.sftp_server.specs.declared.queue.Progress.TheVariants as progress;
@@ -66,7 +66,8 @@ impl Queue {
 
     /// How many requests there are.
     pub(crate) fn len(&self) -> usize
-        ensures { result ≡ length self.now }
+        ensures count { result ≡ length self.now }
+        ensures empty { (result ≡ 0) ↔ (self.now ≡ []) }
     {
         self.entries.len()
     }
@@ -105,11 +106,18 @@ impl Queue {
         }
     }
 
+    /// The entry at this position.
+    fn entry(&self, k: usize) -> Option<&Entry>
+        ensures { option_copied result ≡ slice_get self.now k }
+    {
+        self.entries.get(k)
+    }
+
     /// The request at this position, if it is pending.
     pub(crate) fn pending(&self, k: usize) -> Option<&Request>
         ensures { option_copied result ≡ pending_at self.now k }
     {
-        match self.entries.get(k) {
+        match self.entry(k) {
             Some(entry) => match entry.progress {
                 Progress::Pending => Some(&entry.request),
                 Progress::Done(_) => None,
@@ -124,7 +132,7 @@ impl Queue {
         ensures ask { IfSome result (λ ask. ask.now ≡ ask_at self.now k) }
         ensures none { IfNone result (length self.now ≤ k) }
     {
-        match self.entries.get(k) {
+        match self.entry(k) {
             Some(entry) => Some(&entry.request.ask),
             None => None,
         }
@@ -141,7 +149,7 @@ impl Queue {
     pub(crate) fn is_done(&self, k: usize) -> bool
         ensures { result ≡ is_some (reply_at self.now k) }
     {
-        match self.entries.get(k) {
+        match self.entry(k) {
             Some(entry) => match entry.progress {
                 Progress::Done(_) => true,
                 Progress::Pending => false,
@@ -165,7 +173,7 @@ impl Queue {
 
     /// Whether the request at this position is unsent and has this id.
     fn is_unsent_at(&self, k: usize, id: u32) -> bool {
-        match self.entries.get(k) {
+        match self.entry(k) {
             Some(entry) => match entry.progress {
                 Progress::Pending => entry.request.id == id,
                 Progress::Done(_) => entry.request.id == id,

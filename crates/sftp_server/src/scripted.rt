@@ -108,14 +108,12 @@ fn send_replies<W: Sink, L: Sink, S: Schedule, T: HandleTable, A: Answerer<T>>(
     ensures spares { Spares streams.Reader result }
 {
     'steps: loop {
-        match schedule.step() {
-            Some(Step::Reply(id)) => {
-                if !answer(id, core, output, writer, log, answerer)? {
-                    return Ok(false);
-                }
-            }
-            Some(Step::Take) => return Ok(true),
-            None => return Ok(false),
+        let step = schedule.step();
+        let Some(Step::Reply(id)) = step else {
+            return Ok(step.is_some());
+        };
+        if !answer(id, core, output, writer, log, answerer)? {
+            return Ok(false);
         }
     }
 }
@@ -223,8 +221,7 @@ fn await_request<R: Source, W: Sink, L: Sink, S: Schedule, T: HandleTable>(
     'request: loop {
         match take_one(alloc, input, core, log)? {
             Front::Taken => return Ok(goes_on(core, schedule)),
-            Front::Full => return Ok(false),
-            Front::Fault(_) => return Ok(false),
+            Front::Full | Front::Fault(_) => return Ok(false),
             Front::Waiting => {
                 flush(writer)?;
                 if input.read(reader)? == 0 {

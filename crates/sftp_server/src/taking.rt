@@ -58,12 +58,9 @@ pub(crate) fn take_requests<L: Sink, T: HandleTable>(
 {
     'front: loop {
         let front = take_one(alloc, input, core, log)?;
-        match front {
-            Front::Taken => {}
-            Front::Full => return Ok(front),
-            Front::Waiting => return Ok(front),
-            Front::Fault(_) => return Ok(front),
-        }
+        let Front::Taken = front else {
+            return Ok(front);
+        };
     }
 }
 

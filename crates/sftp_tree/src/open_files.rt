@@ -10,7 +10,7 @@ ghost use Rattle.sftp_tree.specs.Room as room;
 use crate::causes::{Cause, Refused};
 use crate::file_numbers::FileNo;
 use crate::trees::Tree;
-use sftp_wire::Attrs;
+use sftp_wire::{Attrs, ends_within};
 
 impl Tree {
     /// Whether there is a file of this number.
@@ -112,10 +112,8 @@ impl Tree {
         ensures { result ≡ changes.end_fits self.now number (offset + count) }
     {
         let most = self.tree_limits().file_bytes;
-        if offset > most || count > most - offset {
-            return false;
-        }
-        self.total_fits_with(number, self.length_of(number).max(offset + count))
+        ends_within(offset, count, most)
+            && self.total_fits_with(number, self.length_of(number).max(offset + count))
     }
 }
 

@@ -3,10 +3,12 @@
 #![tactic(auto)]
 
 pub mod examples;
+mod extents;
 mod framing;
 mod fronts;
 mod laws;
 
+pub use extents::ends_within;
 pub use framing::{FrameBuf, streams};
 pub use fronts::front;
 pub use laws::spellings_are_apart;

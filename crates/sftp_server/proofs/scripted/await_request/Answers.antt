@@ -4,8 +4,8 @@ use Rattle.sftp_server.proofs.Sessions.Closed.{running-more, running-written, re
 use Rattle.sftp_server.proofs.Sessions.Closed.{ahead-falls, running-sound}
 use Rattle.sftp_server.proofs.scripted.await_request.Goals as goal
 
-pub returns-in-Fault-clause-running : goal.returns-in-Fault-clause-running
-returns-in-Fault-clause-running g c = λ start past running.
+pub returns-in-Full-clause-running : goal.returns-in-Full-clause-running
+returns-in-Full-clause-running g c = λ start past running.
     running-sound (c.in_ok-take_one.ensures.running start past (g.R.Source.left c.request.reader)
     (g.W.Sink.written c.request.writer) (c.request.invariant.running start past running))
 

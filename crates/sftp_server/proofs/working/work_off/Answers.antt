@@ -11,3 +11,14 @@ returns-then-count-eq0-clause-answered g c =
 pub act-requires-clause-possible : goal.act-requires-clause-possible
 act-requires-clause-possible g c =
     possible server_clash c.owed.core _ c.choice-choice.result c.choice-choice.ensures
+
+pub owed-preserved : goal.owed-preserved
+owed-preserved g c =
+    let acted = c.in_ok-act.ensures in
+    record {
+      running = λ start past left ahead fault running.
+          acted.running start past left ahead fault (c.owed.invariant.running start past left ahead fault running);
+      logging = acted.logging;
+      same_writer = acted.counts_writer ∙ c.owed.invariant.same_writer;
+      same_log = acted.counts_log ∙ c.owed.invariant.same_log;
+    }

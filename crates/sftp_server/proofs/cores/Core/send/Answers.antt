@@ -5,7 +5,7 @@ use Rattle.sftp_server.proofs.cores.Core.send.Goals as goal
 
 pub overflow_sub-before : goal.overflow_sub-before
 overflow_sub-before g c =
-    rw (c.len.ensures, c.len-before.ensures)
+    rw (c.len.ensures.count, c.len-before.ensures.count)
     (sent-shorter c.self.inside.queue c.send.new.self c.args.k c.in-Some.ensures.sent)
 
 pub invariant_of-self : goal.invariant_of-self
@@ -15,7 +15,7 @@ invariant_of-self g c =
           c.send.ensures.unchanged,
       keeps-sent old.session old.queue c.send.new.self old.readiness c.mark_sent.new.self c.args.k
           c.len-before.result c.len.result c.in-Some.reply c.self.invariant.1 (sym c.in-Some.ensures.reply)
-          c.in-Some.ensures.sent c.len-before.ensures c.len.ensures c.mark_sent.ensures.notes
+          c.in-Some.ensures.sent c.len-before.ensures.count c.len.ensures.count c.mark_sent.ensures.notes
           c.mark_sent.ensures.first_pending c.mark_sent.ensures.size c.mark_sent.ensures.writers
           c.mark_sent.ensures.possible,
     )
