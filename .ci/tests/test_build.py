@@ -4,6 +4,7 @@ import importlib.machinery
 import importlib.util
 import io
 import os
+import shutil
 import subprocess
 import sys
 import tempfile
@@ -63,6 +64,27 @@ class Failing(unittest.TestCase):
             self.assertEqual(module.main([folder, "sftpv3"]), 3)
         self.assertEqual(said.getvalue(), "sftpv3: there is no rt in the PATH: the Rattle toolchain, which has it, "
                                           "proves and builds the program\n")
+
+
+class Callers(unittest.TestCase):
+    """`./sftpv3` and `./install`, with a script in place of `.ci/build`."""
+
+    def status_of(self, name: str, status: int) -> int:
+        """The status of the caller when the build ends with this one."""
+        with tempfile.TemporaryDirectory() as folder:
+            top = Path(folder)
+            shutil.copy(FOLDER.parent / name, top)
+            (top / ".ci").mkdir()
+            (top / ".ci/build").write_text(f"#!/bin/sh\nexit {status}\n")
+            (top / ".ci/build").chmod(0o755)
+            environment = {key: value for key, value in os.environ.items() if key != "SFTPV3"}
+            return subprocess.run([top / name], env=environment, stdin=subprocess.DEVNULL, check=False).returncode
+
+    def test_status(self):
+        for name in ("sftpv3", "install"):
+            for status, wanted in ((1, 3), (3, 3), (127, 3), (129, 129), (130, 130), (143, 143)):
+                with self.subTest(name, status=status):
+                    self.assertEqual(self.status_of(name, status), wanted)
 
 
 if __name__ == "__main__":

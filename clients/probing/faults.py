@@ -29,7 +29,8 @@ def main():
         for name, fault in FAULTS.items():
             print(f"{name}: {' '.join(fault.__doc__.split())}")
         return
-    planted.run({**FAULTS, **SOUND}[sys.argv[1]](), sys.argv[2:])
+    fault, command = planted.named({**FAULTS, **SOUND}, "without arguments, it lists them")
+    planted.run(fault(), command)
 
 
 if __name__ == "__main__":

@@ -14,6 +14,7 @@ import time
 sys.path.insert(0, os.path.dirname(os.path.dirname(os.path.realpath(__file__))))
 
 import sftp3  # noqa: E402 (the folder above is not searched before)
+from probing import planted  # noqa: E402
 
 
 def status(number, code):
@@ -397,8 +398,9 @@ def write(target, data):
 
 def main(kinds):
     """Runs the server whose class the command line names."""
-    kind = kinds[sys.argv[1].replace("-", "_")]()
-    with subprocess.Popen(sys.argv[2:], stdin=subprocess.PIPE, stdout=subprocess.PIPE, bufsize=0) as server:
+    chosen, command = planted.named(kinds)
+    kind = chosen()
+    with subprocess.Popen(command, stdin=subprocess.PIPE, stdout=subprocess.PIPE, bufsize=0) as server:
         replies = packets_of(server.stdout.fileno())
         for packet in packets_of(0):
             asked = None if packet[4] == sftp3.INIT else sftp3.decode(packet)
@@ -412,4 +414,4 @@ def main(kinds):
 
 
 if __name__ == "__main__":
-    main(globals())
+    main(planted.classes(globals()))

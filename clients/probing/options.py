@@ -106,7 +106,7 @@ def names_among(known):
         found = [name for name in text.split(",") if name]
         unknown = [name for name in found if name not in known]
         if unknown:
-            raise argparse.ArgumentTypeError(f"there is no {', '.join(unknown)}")
+            raise argparse.ArgumentTypeError(f"there is no {', '.join(unknown)}: --help lists what there is")
         return found
     return names
 

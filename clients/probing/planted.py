@@ -9,6 +9,7 @@ import itertools
 import os
 import subprocess
 import sys
+import textwrap
 import threading
 
 sys.path.insert(0, os.path.dirname(os.path.dirname(os.path.realpath(__file__))))
@@ -289,6 +290,25 @@ def pass_on(source, target, change, see=lambda left: None):
     os.close(target)
 
 
+def named(kinds, names=""):
+    """The kind of server that the command line names, and the command behind it. `names` says where the names are."""
+    script, name, *command = [*sys.argv, ""] if len(sys.argv) == 1 else sys.argv
+    found = kinds.get(name.replace("_", "-"))
+    if found and command:
+        return found, command
+    why = f"{name}: the command is missing" if found else f"there is no {name}" if name else "the name is missing"
+    names = names or "the names are " + ", ".join(kinds)
+    print(f"usage: python3 {script} NAME COMMAND [ARGUMENT ...]",
+          textwrap.fill(f"{os.path.basename(script)}: {why}; {names}", 120, break_on_hyphens=False),
+          sep="\n", file=sys.stderr)
+    sys.exit(2)
+
+
+def classes(module):
+    """The classes of a module by their names, as the command line has them."""
+    return {name.replace("_", "-"): found for name, found in module.items() if isinstance(found, type)}
+
+
 def run(bug, command):
     """Runs a server, and passes packets on through a bug until both are done."""
     server = subprocess.Popen(command, stdin=subprocess.PIPE, stdout=subprocess.PIPE, bufsize=0)
@@ -306,4 +326,5 @@ def run(bug, command):
 
 
 if __name__ == "__main__":
-    run(globals()[sys.argv[1].replace("-", "_")](), sys.argv[2:])
+    kind, words = named(classes(globals()))
+    run(kind(), words)

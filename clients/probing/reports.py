@@ -240,8 +240,8 @@ def record_text(shown, texts, place):
 def cut_line(line):
     if len(line) <= COLUMNS:
         return line
-    kept = line[:COLUMNS - 24]
-    return f"{kept}... {len(line) - len(kept):,} signs more"
+    kept = line[:COLUMNS - 30]
+    return f"{kept}... {len(line) - len(kept):,} characters more"
 
 
 def byte_lines(lines, shown):
