@@ -13,7 +13,7 @@ use Rattle.sftp_packets.specs.Packets.{HasSpelling, spelling}
 use Rattle.sftp_packets.specs.Spelling.{name_item, string, uint32, uint64, two_uint32, optional, counted_pairs}
 use Rattle.sftp_packets.specs.Spelling.{attributes, attribute_fields, attribute_flags, FitsNameItem, FitsString}
 use Rattle.sftp_packets.specs.Spelling.{FitsAttrs, FitsTwo, FitsCounted}
-use Rattle.sftp_vary.specs.Bare.{bare_item}
+use Rattle.sftp_bare.specs.Bare.{bare_item}
 use Rattle.sftp_clock.specs.Timed.{shown, listing, untimed, untimed_attrs, is_plain, ArePlain, IsTimed}
 
 -- ---- one by one

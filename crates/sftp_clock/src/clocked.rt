@@ -2,7 +2,7 @@
 ghost use Rattle.std.specs.Prelude.{◌≡◌};
 ghost use Rattle.sftp_packets.specs.declared.packets.Packet.TheVariants.{Reply as reply_packet};
 ghost use Rattle.sftp_packets.specs.Packets.{HasSpelling};
-ghost use Rattle.sftp_vary.specs.Bare.{bare};
+ghost use Rattle.sftp_bare.specs.Bare.{bare};
 
 use crate::listings::{OpenListings, times_in};
 use crate::places::Spot;

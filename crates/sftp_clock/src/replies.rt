@@ -4,7 +4,7 @@ ghost use Rattle.std.specs.List.{AllByRecursion};
 ghost use Rattle.sftp_packets.specs.declared.packets.Packet.TheVariants.{Reply as reply_packet};
 ghost use Rattle.sftp_packets.specs.Packets.{HasSpelling};
 ghost use Rattle.sftp_packets.specs.Spelling.{FitsNameItem};
-ghost use Rattle.sftp_vary.specs.Bare.{bare, bare_attrs, bare_item};
+ghost use Rattle.sftp_bare.specs.Bare.{bare, bare_attrs, bare_item};
 ghost use Rattle.sftp_clock.specs.Timed.{shown, listing, untimed, is_plain, ArePlain, IsTimed};
 
 use crate::times::Times;

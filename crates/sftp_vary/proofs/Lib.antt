@@ -1,2 +1,1 @@
-pub mod BareReplies
 mod LineLaws

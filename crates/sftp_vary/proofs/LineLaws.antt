@@ -13,7 +13,7 @@ use Rattle.sftp_packets.specs.Packets.{HasSpelling, spelling}
 use Rattle.sftp_packets.specs.Spelling.{name_item, string, uint32, uint64, two_uint32, optional, counted_pairs}
 use Rattle.sftp_packets.specs.Spelling.{attributes, attribute_fields, attribute_flags, FitsNameItem, FitsString}
 use Rattle.sftp_packets.specs.Spelling.{FitsTwo, FitsCounted}
-use Rattle.sftp_vary.specs.Bare.{bare_item, bare_attrs}
+use Rattle.sftp_bare.specs.Bare.{bare_item, bare_attrs}
 use Rattle.sftp_vary.specs.Lines.{listing, is_short, AreShort, IsLine, IsLined}
 
 -- ---- one by one

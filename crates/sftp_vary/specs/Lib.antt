@@ -1,3 +1,2 @@
 -- Words of public contracts.
-pub mod Bare
 pub mod Lines

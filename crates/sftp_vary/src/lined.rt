@@ -4,7 +4,7 @@ ghost use Rattle.std.specs.List.{AllByRecursion};
 ghost use Rattle.sftp_packets.specs.declared.packets.Packet.TheVariants.{Reply as reply_packet};
 ghost use Rattle.sftp_packets.specs.Packets.{HasSpelling};
 ghost use Rattle.sftp_packets.specs.Spelling.{FitsNameItem};
-ghost use Rattle.sftp_vary.specs.Bare.{bare, bare_item};
+ghost use Rattle.sftp_bare.specs.Bare.{bare, bare_item};
 ghost use Rattle.sftp_vary.specs.Lines.{listing, AreShort, IsLine, IsLined};
 
 use crate::long_names::long_name;

@@ -3,7 +3,7 @@ ghost use Rattle.std.specs.Prelude.{◌≡◌, [], IfOk, IfSome};
 ghost use Rattle.sftp_packets.specs.declared.packets.Packet.TheVariants.{Reply as reply_packet};
 ghost use Rattle.sftp_packets.specs.declared.replies.Answer.TheVariants as replies;
 ghost use Rattle.sftp_packets.specs.Packets.{HasSpelling};
-ghost use Rattle.sftp_vary.specs.Bare.{bare};
+ghost use Rattle.sftp_bare.specs.Bare.{bare};
 
 use crate::cuts::Cuts;
 use crate::freedoms::{Freedom, Freedoms, Variation};

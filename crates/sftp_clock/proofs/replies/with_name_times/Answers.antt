@@ -3,7 +3,7 @@ use Rattle.std.proofs.Common.{◌∙◌, ap, map, subst, sym}
 use Rattle.std.specs.List.{AllByRecursion}
 use Rattle.sftp_packets.specs.Packets.{HasSpelling}
 use Rattle.sftp_packets.specs.Spelling.{FitsNameItem}
-use Rattle.sftp_vary.specs.Bare.{bare_item}
+use Rattle.sftp_bare.specs.Bare.{bare_item}
 use Rattle.sftp_clock.specs.Timed.{listing, untimed, ArePlain}
 use Rattle.sftp_clock.proofs.TimedItems.{names-spelled, bare-same}
 use Rattle.sftp_clock.proofs.replies.with_name_times.Goals as goal

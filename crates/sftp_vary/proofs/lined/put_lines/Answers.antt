@@ -3,7 +3,7 @@ use Rattle.std.proofs.Common.{ap, map, length, sym, subst, ◌∙◌}
 use Rattle.std.proofs.lemmas.List.{with_items_is}
 use Rattle.std.specs.List.{AllByRecursion}
 use Rattle.sftp_packets.specs.Spelling.{FitsNameItem}
-use Rattle.sftp_vary.specs.Bare.{bare_item}
+use Rattle.sftp_bare.specs.Bare.{bare_item}
 use Rattle.sftp_vary.specs.Lines.{IsLined}
 use Rattle.sftp_vary.proofs.LineLaws.{bare-taken, lined-taken, rest-taken, bare-all, lined-all, bare-length, fits-at}
 use Rattle.sftp_vary.proofs.lined.put_lines.Goals as goal

@@ -2,7 +2,7 @@
 use Rattle.std.proofs.Common.{◌≡◌, map, take, drop}
 use Rattle.std.specs.List.{AllByRecursion}
 use Rattle.sftp_packets.specs.Spelling.{FitsNameItem}
-use Rattle.sftp_vary.specs.Bare.{bare_item}
+use Rattle.sftp_bare.specs.Bare.{bare_item}
 use Rattle.sftp_vary.specs.Lines.{IsLined}
 use Rattle.sftp_vary.proofs.lined.put_lines.Given as goal
 

@@ -1,5 +1,5 @@
 -- The other answerer's reply is allowed, and this one says the same but for what is free.
-use Rattle.sftp_vary.proofs.BareReplies.{still-allowed}
+use Rattle.sftp_bare.proofs.BareReplies.{still-allowed}
 use Rattle.sftp_vary.proofs.worded.WordedAnswerer.answer.Goals as goal
 
 pub returns-in-Ok-clause-allowed : goal.returns-in-Ok-clause-allowed

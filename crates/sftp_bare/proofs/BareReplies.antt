@@ -25,7 +25,7 @@ use Rattle.sftp_handles.specs.Allowed.{causes, answers, after, after_by, said_to
 use Rattle.sftp_handles.specs.Allowed.{flags_of, told_to}
 use Rattle.sftp_handles.specs.State.{Seen, absent, other_kind, something, file, listing}
 use Rattle.sftp_handles.specs.State.{State, settled}
-use Rattle.sftp_vary.specs.Bare.{bare, bare_attrs, bare_item}
+use Rattle.sftp_bare.specs.Bare.{bare, bare_attrs, bare_item}
 
 -- ---- items
 

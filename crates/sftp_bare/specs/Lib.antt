@@ -1,0 +1,2 @@
+-- Words of public contracts.
+pub mod Bare
