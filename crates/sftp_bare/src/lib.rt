@@ -10,7 +10,6 @@ ghost use Rattle.sftp_handles.specs.State.{State};
 ghost use Rattle.sftp_bare.specs.Bare.{bare};
 
 /// A reply is allowed if one is that has the same id and says the same but for what is free.
-#[tactic(auto, using(crate::proofs::BareReplies::still-allowed))]
 pub fn what_is_free_is_allowed()
     ensures { (s : State) (request : Request) (reply other : Reply) (end : State) →
         Allowed s request reply end → other.id ≡ reply.id → bare other.answer ≡ bare reply.answer →
