@@ -1,7 +1,6 @@
 """What the blocks of a case do, one after the other."""
 from __future__ import annotations
 
-import os
 import re
 from collections.abc import Callable
 from pathlib import Path
