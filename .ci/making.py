@@ -1,10 +1,9 @@
-"""What is checked of the cases that scripts in models/ print: that each text is the one that models/made.txt has, so
-that no case is lost, and that the program which runs cases passes them."""
+"""What is checked of cases: that each text which a script in models/ prints is the one that models/made.txt has, so
+that no case is lost; that a program passes these and those of cases/; and that those that have to fail do so."""
 import concurrent.futures
 import hashlib
 import os
 import re
-import shutil
 import subprocess
 import sys
 import tempfile
@@ -12,9 +11,9 @@ from pathlib import Path
 
 from texts import TOP
 
-MODELS, DATA = TOP / "models", TOP / "crates/sftp_cases/data"
+MODELS, DATA = TOP / "models", TOP / "cases"
 TABLE = MODELS / "made.txt"
-PASSED = b"all cases passed\n"
+PASSED, FAILED = "all cases passed\n", "all cases failed as they have to\n"
 SECONDS = 600
 # How many lines are shown of what failed.
 SHOWN = 60
@@ -22,7 +21,7 @@ SHOWN = 60
 
 class Made:
     """A line of the table: a file of cases, how many cases and lines it has, its hash, and the command that prints it.
-    In place of the hash it has `stored` if the file is one of crates/sftp_cases/data."""
+    In place of the hash it has `stored` if the file is one of cases/."""
 
     def __init__(self, line):
         self.file, cases, lines, self.hash, self.script, *words = line.split()
@@ -64,7 +63,7 @@ def wrong_text(made, text, status):
 
 
 def wrong_table(table):
-    """Yields scripts of which no cases are stored, so that the gate by itself would try none of their kind."""
+    """Yields scripts of which no cases are stored, so that nobody can read what they print."""
     scripts = {it.name for it in MODELS.iterdir() if it.is_file() and os.access(it, os.X_OK)}
     for script in sorted(scripts | {it.script for it in table}):
         if script not in scripts:
@@ -73,28 +72,36 @@ def wrong_table(table):
             yield f"models/made.txt: no stored file of models/{script}"
 
 
-def run_cases(program, made, text):
-    """Runs a program on a file of cases, in a folder of its own. Returns a line for each mistake."""
-    with tempfile.TemporaryDirectory(prefix="cases-") as room:
-        shutil.copy(DATA / "start.tree", room)
-        Path(room, made.file).write_bytes(text)
-        ran = subprocess.run([program, made.file], cwd=room, stdin=subprocess.DEVNULL, stdout=subprocess.PIPE,
-                             stderr=subprocess.STDOUT, timeout=SECONDS)
-    if (ran.stdout, ran.returncode) == (PASSED, 0):
+def run_cases(program, words, wanted):
+    """Runs cases/run with these words on a program. Returns a line for each mistake."""
+    ran = subprocess.run([sys.executable, DATA / "run", *words], env={**os.environ, "SFTPV3": str(program)},
+                         stdin=subprocess.DEVNULL, stdout=subprocess.PIPE, stderr=subprocess.STDOUT, timeout=SECONDS)
+    printed = ran.stdout.decode(errors="replace")
+    if (printed, ran.returncode) == (wanted, 0):
         return []
-    return [f"{made.shown}: {program} ended with status {ran.returncode}",
-            *(f"  {it}" for it in ran.stdout.decode(errors="replace").splitlines()[:SHOWN])]
+    return [f"cases/run {' '.join(words[:1])}: {program}: it ended with status {ran.returncode}",
+            *(f"  {it}" for it in [*printed.splitlines()[:SHOWN], *printed.splitlines()[SHOWN:][-1:]])]
 
 
-def wrong_cases(programs=()):
-    """Has each script print its cases, and runs those that are not stored with these builds of the program. Returns the
-    mistakes, and what was done, in words."""
+def wrong_runs(program, texts):
+    """Runs all stored cases, and these texts by the names of their files, on a program; and those that have to fail."""
+    with tempfile.TemporaryDirectory(prefix="cases-") as room:
+        for name, text in texts.items():
+            Path(room, f"printed-{name}").write_bytes(text)
+        files = sorted(str(it) for it in [*DATA.glob("*.cases"), *Path(room).glob("*.cases")])
+        return [*run_cases(program, files, PASSED), *run_cases(program, ["--must-fail"], FAILED)]
+
+
+def wrong_cases(program=None):
+    """Has each script print its cases, and runs all cases with this program. Returns the mistakes, and what was done,
+    in words."""
     table = lines_of_table()
     with concurrent.futures.ThreadPoolExecutor(os.cpu_count()) as pool:
         printed = list(pool.map(Made.text, table))
-        found = [line for it, text in zip(table, printed) for line in wrong_text(it, *text)]
-        made = [(it, text) for it, (text, _) in zip(table, printed) if not it.is_stored]
-        for lines in pool.map(lambda it: run_cases(*it), [(program, *it) for program in programs for it in made]):
-            found += lines
-    count = sum(it.counts[0] for it, _ in made)
-    return [*wrong_table(table), *found], f"{count} cases of models/{' passed' if programs and not found else ''}"
+    found = [line for it, text in zip(table, printed) for line in wrong_text(it, *text)]
+    made = {it.file: text for it, (text, _) in zip(table, printed) if not it.is_stored}
+    found += wrong_runs(program, made) if program else []
+    count = sum(counts_of(it)[0] for it in made.values())
+    stored = sum(counts_of(it.read_bytes())[0] for it in DATA.glob("*.cases"))
+    return [*wrong_table(table), *found], (f"{stored} cases of cases/ and {count} of models/"
+                                           f"{' passed' if program and not found else ''}")

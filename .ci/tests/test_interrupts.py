@@ -16,7 +16,7 @@ RT = """#!/bin/sh
 echo $$ >>"{room}/running"
 exec sleep 600
 """
-WORDS = {"edits": [TOP / "edits", "sftp_json"], "build": [TOP / ".ci/build", "ROOM/out", "sftp_cases"]}
+WORDS = {"edits": [TOP / "edits", "sftp_json"], "build": [TOP / ".ci/build", "ROOM/out", "sftpv3"]}
 
 
 def signalled(room: Path, words: list[str], number: signal.Signals) -> tuple[int, str]:

@@ -124,7 +124,7 @@ class Cases(unittest.TestCase):
 
     def test_stored_file_that_is_another(self):
         found = self.wrong("types.cases 2 6 stored types")
-        self.assertEqual(found, ["models/types: this is not what is in crates/sftp_cases/data/types.cases"])
+        self.assertEqual(found, ["models/types: this is not what is in cases/types.cases"])
 
     def test_script_that_fails(self):
         self.assertEqual(self.wrong("a.cases 2 6 00 lists", b"", 2), ["models/lists: it ended with status 2"])
@@ -134,10 +134,12 @@ class Cases(unittest.TestCase):
         self.assertEqual(list(making.wrong_table(table)), ["models/made.txt: no stored file of models/moves"])
 
     def test_program_that_fails_is_reported(self):
-        made = making.Made("a.cases 2 6 00 lists 1")
-        found = making.run_cases("/bin/false", made, CASES)
-        self.assertEqual(found, ["models/lists 1: /bin/false ended with status 1"])
-        self.assertEqual(len(making.run_cases("/bin/true", made, CASES)), 1)
+        with tempfile.TemporaryDirectory() as room:
+            file = Path(room, "a.cases")
+            file.write_bytes(b"case one\nrun sftpv3 --version\noutput\n  sftpv3 1\n")
+            found = making.run_cases("/bin/true", [str(file)], making.PASSED)
+        self.assertEqual(found[0], f"cases/run {file}: /bin/true: it ended with status 1")
+        self.assertEqual(found[-1], "  1 of 1 cases failed")
 
 
 class Counts(unittest.TestCase):
