@@ -92,16 +92,16 @@ def wrong_runs(program, texts):
         return [*run_cases(program, files, PASSED), *run_cases(program, ["--must-fail"], FAILED)]
 
 
-def wrong_cases(program=None):
-    """Has each script print its cases, and runs all cases with this program. Returns the mistakes, and what was done,
-    in words."""
+def wrong_cases(programs=()):
+    """Has each script print its cases, and runs all cases with these builds of the program. Returns the mistakes, and
+    what was done, in words."""
     table = lines_of_table()
     with concurrent.futures.ThreadPoolExecutor(os.cpu_count()) as pool:
         printed = list(pool.map(Made.text, table))
     found = [line for it, text in zip(table, printed) for line in wrong_text(it, *text)]
     made = {it.file: text for it, (text, _) in zip(table, printed) if not it.is_stored}
-    found += wrong_runs(program, made) if program else []
+    found += [line for program in programs for line in wrong_runs(program, made)]
     count = sum(counts_of(it)[0] for it in made.values())
     stored = sum(counts_of(it.read_bytes())[0] for it in DATA.glob("*.cases"))
     return [*wrong_table(table), *found], (f"{stored} cases of cases/ and {count} of models/"
-                                           f"{' passed' if program and not found else ''}")
+                                           f"{' passed' if programs and not found else ''}")

@@ -1,4 +1,4 @@
-//! Tests of what no case of `sftp_cases` can say, in a module for each library: calls by values, streams that fail,
+//! Tests of what no case (docs/CASES.md) can say, in a module for each library: calls by values, streams that fail,
 //! cores and scripts of acts, the client's pairing. `audited` is about the server and the auditor, `answered` about
 //! `answer` and `accept`: what the one gives, the other takes. The laws of `strict` are about the strict reading and
 //! the profiles.
