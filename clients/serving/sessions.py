@@ -244,6 +244,10 @@ def play(options: Options, log: Log, signs: Signals) -> int:
             saving.discard()
         log.say(str(error))
         return error.status
+    except BaseException:
+        if saving:
+            saving.discard()
+        raise
     signs.catch()
     # it may have ended before its end could wake the loop
     session.look()
