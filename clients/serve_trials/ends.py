@@ -304,6 +304,28 @@ def tree_from_pipe(steps, room):
         (room.folder / kind).unlink(missing_ok=True)
 
 
+def other_pipes(steps, room):
+    """A FIFO as the record, or as what is replayed, whose other end nobody opens."""
+    os.mkfifo(room.folder / "fifo")
+    for option in ("--record", "--replay"):
+        server = room.serve("--save", "saved", option, "fifo")
+        steps.check(f"{option} FIFO: it waits", wait_until(lambda: children_of(server.process.pid)) and
+                    server.status(1) is None)
+        server.process.send_signal(signal.SIGTERM)
+        status = server.status(20)
+        steps.check(f"{option} FIFO whose other end nobody opens: SIGTERM ends it", (status or -1) > 0, f"{status}")
+        names = set(room.left()) - {"saved"}
+        steps.check(f"{option} FIFO: nothing is left beside the file of --save", names == {"fifo", "t"}, f"{names}")
+        room.end_servers()
+    with open(room.folder / "taken", "wb") as taken, subprocess.Popen(["cat", "fifo"], stdout=taken, cwd=room.folder):
+        server = room.saving("--record", "fifo")
+        steps.check("--record FIFO that is read: a session", server.make("/a"))
+        server.process.send_signal(signal.SIGTERM)
+        steps.check("--record FIFO that is read: SIGTERM has the tree saved, status 0", server.status() == 0 and
+                    room.names() == ["/a"])
+    steps.check("--record FIFO that is read: the record is whole", b"/a" in (room.folder / "taken").read_bytes())
+
+
 TRIALS = (at_rest, to_all, again, before_opening, within_upload, within_download, what_came, waiting_client,
           leaving_clients, broken_protocol, ignored, killed_server, killed_script, files_as_streams,
-          tree_from_pipe)
+          tree_from_pipe, other_pipes)

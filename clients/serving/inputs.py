@@ -157,6 +157,33 @@ def tree_of(name: str) -> Filled | NoTree:
     return NoTree()
 
 
+class Waiting:
+    """The FIFOs whose other end the server may wait for when it opens them: by the name of each, how that end is
+    opened."""
+
+    def __init__(self, record: str | None, replay: str | None):
+        given = [(record, os.O_RDONLY), (replay, os.O_WRONLY)]
+        self.ends = {name: how for name, how in given if name is not None and is_fifo(name)}
+
+    def let_go(self):
+        """Opens and closes these ends, which nobody notices who does not wait for one."""
+        for name, how in self.ends.items():
+            try:
+                with ways.place_led_to(name) as place:
+                    os.close(place.open(how | os.O_NONBLOCK))
+            except OSError:
+                # the server is not there yet, or has it open
+                pass
+
+
+def is_fifo(name: str) -> bool:
+    try:
+        found = ways.end_of(name)[1]
+    except OSError:
+        return False
+    return found is not None and stat.S_ISFIFO(found.st_mode)
+
+
 def spliced(source: int, pipe: int, count: int) -> int:
     return os.splice(source, pipe, count, flags=os.SPLICE_F_MOVE | os.SPLICE_F_NONBLOCK)
 

@@ -6,7 +6,7 @@ import time
 from recording import naming
 from recording.ways import refuse_link_of_another
 from recording.notices import Notices, write_error
-from serving.inputs import Filled, Given, is_local_socket, shut_output, tree_of
+from serving.inputs import Filled, Given, Waiting, is_local_socket, shut_output, tree_of
 from serving.options import NAME, Misused, Options, read
 from serving.saving import Saving, Unfit
 
@@ -19,6 +19,8 @@ NOT_SAVED = 3
 NOT_RUN, NOT_FOUND = 126, 127
 
 ENDING = (signals.SIGTERM, signals.SIGHUP, signals.SIGINT)
+# How often, in milliseconds, a server that is to end is let go on where it waits for the other end of a FIFO.
+GLANCE = 500.0
 BROKEN = select.POLLERR | select.POLLHUP | select.POLLNVAL
 
 
@@ -107,6 +109,7 @@ class Session:
         self.grace, self.signs = options.grace, signs
         self.input = Given() if is_local_socket(0) else Filled()
         self.tree = tree_of(options.tree)
+        self.waiting = Waiting(options.record, options.replay)
         self.lines = Lines(log) if log.log is not None else None
         self.process = self.start(options.server_words(side, self.tree.server_end))
         self.code = None
@@ -148,7 +151,8 @@ class Session:
 
     def patience(self) -> float | None:
         """How many milliseconds to wait at most."""
-        return None if self.until is None else max(0.0, 1000 * (self.until - time.monotonic()))
+        left = None if self.until is None else max(0.0, 1000 * (self.until - time.monotonic()))
+        return GLANCE if self.is_ending and self.waiting.ends else left
 
     def act(self, file: int, found: int):
         """Does what the events of a descriptor ask for, unless what came before in the same round closed it."""
@@ -170,6 +174,7 @@ class Session:
             self.input.end()
             self.tree.end()
             self.until = time.monotonic() + self.grace
+        self.waiting.let_go()
         if self.until is not None and time.monotonic() >= self.until:
             self.until = None
             shut_output()
