@@ -15,6 +15,7 @@ from nights.records import NEW, Copy, Failed, NotTaken, Numbers, Spool, end_of_s
 from paging import packets
 from probing import program
 from recording import children, ending, ways
+from recording.pauses import AT_ONCE, Clock
 
 TREE = os.path.join(program.CLIENTS, "tree")
 # How many lines are printed of a comparison or of what a folder has that no tree holds, and how many of a refusal.
@@ -402,19 +403,27 @@ def within(most: int) -> None:
 
 def run(words: Sequence[str], most: int, seconds: float, space: Optional[int] = None, pass_fds=()) -> Told:
     """Runs a command to its end, in an address space of so many bytes, and holds its first lines. Raises TimeoutExpired
-    after so many seconds, when it is killed."""
-    told, deadline = Told(most), time.monotonic() + seconds
+    after so many seconds, when it is killed; those in which the machine was paused do not count."""
+    told, clock = Told(most), Clock()
+    deadline = clock.now() + seconds
     limit = None if space is None else lambda: within(space)
     with children.child(words, stderr=subprocess.STDOUT, bufsize=0, pass_fds=pass_fds, preexec_fn=limit) as running:
-        while data := read(running.stdout.fileno(), deadline - time.monotonic(), words, seconds):
+        while has_come(running.stdout.fileno(), clock, deadline):
+            data = os.read(running.stdout.fileno(), PIECE)
+            if not data:
+                told.status = running.wait(max(0, deadline - clock.now()))
+                told.end()
+                return told
             told.take(data)
-        told.status = running.wait(max(0, deadline - time.monotonic()))
-    told.end()
-    return told
-
-
-def read(file: int, left: float, words: Sequence[str], seconds: float) -> bytes:
-    """What comes within the seconds that are left."""
-    if left <= 0 or not select.select([file], [], [], left)[0]:
         raise subprocess.TimeoutExpired(words, seconds)
-    return os.read(file, PIECE)
+
+
+def has_come(file: int, clock: Clock, deadline: float) -> bool:
+    """Waits until something can be read, at most until this time of the clock, and says whether it can."""
+    clock.look()
+    while (left := deadline - clock.now()) > 0:
+        ready = select.select([file], [], [], min(left, AT_ONCE))[0]
+        clock.look(min(left, AT_ONCE))
+        if ready:
+            return True
+    return False

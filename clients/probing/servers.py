@@ -22,6 +22,7 @@ import sftp3
 from paging import packets
 from probing import pieces
 from recording import greetings, temporary
+from recording.pauses import AT_ONCE, Clock
 
 # Seconds for a server to end after its input did, and after it left a request unanswered.
 PARTING, SILENT_PARTING = 2, 0.5
@@ -181,9 +182,6 @@ def ending(status):
         return f"by signal {-status}"
 
 
-# The most seconds that the system is asked to wait at a time: so it is seen whether this process was stopped meanwhile.
-AT_ONCE = 1
-
 # The most bytes of a packet that are taken in; docs/PROTOCOL.md allows fewer.
 LARGEST = 1 << 20
 
@@ -221,29 +219,6 @@ BREAK = memoryview(b"")
 
 # How many packets that leave together are written at once, so that they come together.
 TOGETHER = 64
-
-
-# How many seconds a process may be late before it is taken for one that was stopped meanwhile.
-LATE = 1
-
-
-class Clock:
-    """The seconds in which this process could run: not those in which it was stopped, and maybe the server with it, as
-    by a container that is paused."""
-
-    def __init__(self):
-        self.away, self.seen = 0.0, time.monotonic()
-
-    def look(self, waited=0):
-        """To be called when something was waited for, at most so many seconds, and before: what it took longer, the
-        process was stopped."""
-        now = time.monotonic()
-        late = now - self.seen - waited
-        self.away += late if late > LATE else 0
-        self.seen = now
-
-    def now(self):
-        return time.monotonic() - self.away
 
 
 class Streams:

@@ -50,7 +50,7 @@ def of_audit(done):
     found = re.match(r"refused record (\d+): (\w+)$", said) if done.returncode == 1 else \
         re.match(r"sftpv3: transcript: record (\d+): (.+)$", why, re.MULTILINE)
     if not accepted and not found:
-        raise Trouble(f"the audit ended {servers.ending(done.returncode)}: {said} {why}",
+        raise Trouble(f"the audit ended {servers.ending(done.returncode)}: {' '.join(filter(None, (said, why)))}",
                       3 if done.returncode == 3 else 2)
     lines = dict(line.split(": ", 1) for line in why.splitlines() if ": " in line and not line.startswith("sftpv3: "))
     return Verdict(accepted, said or why, *((int(found[1]), found[2]) if found else (None, None)), lines)

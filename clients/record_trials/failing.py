@@ -128,6 +128,20 @@ def full_disks(steps, room):
         steps.skip("a small file system", "root alone can mount one")
 
 
+def few_descriptors(steps, room):
+    """Where the system gives too few descriptors, that is said, and no empty record is left."""
+    for count in range(5, 20):
+        ran = run(room, "--required", "few", STUB, data=INIT, preexec_fn=limited(resource.RLIMIT_NOFILE, count))
+        records = [it for it in os.listdir(room.folder) if it.startswith("few")]
+        steps.check(f"{count} descriptors: a session with its record, or a line and neither", ran.returncode == 0 and
+                    whole(room, "few")[0] or ran.returncode in (3, 126) and b"Too many open files" in ran.stderr and
+                    not records, f"{ran} {records}")
+        steps.check(f"{count} descriptors: no other user is blamed", b"others" not in ran.stderr.replace(
+            b"whether others", b""), str(ran.stderr))
+        for it in records:
+            (room.folder / it).unlink()
+
+
 def small_disk(steps, room, asked, size):
     small = room.folder / "small"
     small.mkdir()
@@ -208,4 +222,5 @@ def foreign_code(steps, room):
     steps.check("no code of the user runs in the recorder", not found and ran.stdout == INIT, f"{found} {ran}")
 
 
-TRIALS = (commands, other_commands, files_named_twice, full_disks, long_packets, little_memory, foreign_code)
+TRIALS = (commands, other_commands, files_named_twice, full_disks, few_descriptors, long_packets, little_memory,
+          foreign_code)

@@ -19,6 +19,7 @@ keeping   the daemon that keeps records in a spool, and what each user has of on
 options   the commands
 ending    signals that end other scripts in order
 children  processes that other scripts start and wait for
+pauses    how long they took, without pauses of the machine
 greetings text that comes in place of packets
 parsers   their options, with help and complaints
 """

@@ -92,7 +92,9 @@ def folder_warning(name):
     """What is wrong with the folders of this name, or None: others could rename or replace what is in them."""
     try:
         found = ways.fault(ways.looked_at(name))
-    except OSError:
+    except OSError as error:
+        if error.errno not in (errno.EPERM, errno.ELOOP):
+            return f"whether others can replace {name} is not known: {error.strerror}"
         found = f"a folder on the way to {name} was changed by others"
     return f"{found}, who can replace the record" if found else None
 

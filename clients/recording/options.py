@@ -257,7 +257,11 @@ def record_any(options):
     change = None
     if options.plain:
         from recording.packets import plain as change
-    session = Session(server, signals, notices, options, change)
+    try:
+        session = Session(server, signals, notices, options, change)
+    except (OSError, MemoryError):
+        records.take_back()
+        raise
     if options.audit:
         session.audit = open_audit(options, notices)
     if records.record:

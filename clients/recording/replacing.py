@@ -10,6 +10,8 @@ from recording import ways
 
 # What the names of new files begin with.
 PREFIX = ".sftpv3-"
+# Why a file takes no more.
+NO_ROOM = (errno.ENOSPC, errno.EFBIG, errno.EDQUOT)
 
 
 def is_replaced(found: os.stat_result | None) -> bool:
@@ -36,11 +38,19 @@ class Replacing:
     def __enter__(self) -> "Replacing":
         return self
 
-    def __exit__(self, *_):
-        self.file.close()
-        if self.fresh:
+    def __exit__(self, _kind, error, _trace):
+        if isinstance(error, OSError) and error.errno in NO_ROOM and error.filename is None:
+            error.filename = self.target.path
+        is_kept = self.fresh is None
+        if not is_kept:
             self.fresh.remove()
         self.target.close()
+        try:
+            self.file.close()
+        except OSError:
+            # of what is not kept, nothing that is left to be written is wanted
+            if is_kept:
+                raise
 
     def sync(self, mode: int = 0o600):
         """Gives the file these permissions, and has it on the disk."""

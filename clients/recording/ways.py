@@ -322,6 +322,11 @@ def led_to(name: str) -> tuple[Location, bool]:
         return found, way.is_led_on
 
 
+def place_led_to(name: str) -> Location:
+    """The same place alone, also of a file that the process was given open."""
+    return Inherited(name) if is_inherited(name) else led_to(name)[0]
+
+
 def checked(name: str) -> bytes:
     """A path that has a name of a file at its end."""
     path = os.fsencode(name)
@@ -457,7 +462,7 @@ def parts_of(name: str) -> str:
 
 def end_of(name: str) -> tuple[str, os.stat_result | None]:
     """Where a name leads, as a path without links, and the state of what is there, or None."""
-    with Inherited(name) if is_inherited(name) else led_to(name)[0] as place:
+    with place_led_to(name) as place:
         return place.path, place.state()
 
 

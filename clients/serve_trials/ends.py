@@ -274,5 +274,58 @@ def files_as_streams(steps, room):
     steps.check("nothing as the input: it ends as serve does", ran.returncode in (0, 1) and room.names() == ["/a"])
 
 
+def tree_from_pipe(steps, room):
+    """A tree file that is a FIFO: who should write to it may never come, or never write."""
+    os.mkfifo(room.folder / "fifo")
+    tree = (room.folder / "t").read_bytes()
+    for kind in KINDS:
+        for number in SIGNALS:
+            for told, given in ("nobody writes", None), ("a part is written", tree[:9]):
+                name = f"{number.name} when the tree is a FIFO to which {told}, over {kind}"
+                server = room.serve("--save", kind, tree="fifo", kind=kind)
+                writer = os.open(room.folder / "fifo", os.O_RDWR) if given else None
+                if given:
+                    os.write(writer, given)
+                wait_until(lambda: children_of(server.process.pid))
+                server.process.send_signal(number)
+                status = server.status(20)
+                steps.check(f"{name}: it ends by itself, and nothing is saved", (status or -1) > 0 and
+                            room.left() == ["fifo", "t"], f"{status}, {room.left()}")
+                if given:
+                    os.close(writer)
+                room.end_servers()
+        server = room.serve("--save", kind, tree="fifo", kind=kind)
+        (room.folder / "fifo").write_bytes(tree)
+        steps.check(f"a tree from a FIFO, over {kind}: a session begins", server.open() and server.make("/a"))
+        server.process.send_signal(signal.SIGTERM)
+        status = server.status()
+        steps.check(f"a tree from a FIFO, over {kind}: SIGTERM has it saved, status 0", status == 0 and
+                    room.names(kind) == ["/a"], f"{status}, {room.left()}")
+        (room.folder / kind).unlink(missing_ok=True)
+
+
+def other_pipes(steps, room):
+    """A FIFO as the record, or as what is replayed, whose other end nobody opens."""
+    os.mkfifo(room.folder / "fifo")
+    for option in ("--record", "--replay"):
+        server = room.serve("--save", "saved", option, "fifo")
+        steps.check(f"{option} FIFO: it waits", wait_until(lambda: children_of(server.process.pid)) and
+                    server.status(1) is None)
+        server.process.send_signal(signal.SIGTERM)
+        status = server.status(20)
+        steps.check(f"{option} FIFO whose other end nobody opens: SIGTERM ends it", (status or -1) > 0, f"{status}")
+        names = set(room.left()) - {"saved"}
+        steps.check(f"{option} FIFO: nothing is left beside the file of --save", names == {"fifo", "t"}, f"{names}")
+        room.end_servers()
+    with open(room.folder / "taken", "wb") as taken, subprocess.Popen(["cat", "fifo"], stdout=taken, cwd=room.folder):
+        server = room.saving("--record", "fifo")
+        steps.check("--record FIFO that is read: a session", server.make("/a"))
+        server.process.send_signal(signal.SIGTERM)
+        steps.check("--record FIFO that is read: SIGTERM has the tree saved, status 0", server.status() == 0 and
+                    room.names() == ["/a"])
+    steps.check("--record FIFO that is read: the record is whole", b"/a" in (room.folder / "taken").read_bytes())
+
+
 TRIALS = (at_rest, to_all, again, before_opening, within_upload, within_download, what_came, waiting_client,
-          leaving_clients, broken_protocol, ignored, killed_server, killed_script, files_as_streams)
+          leaving_clients, broken_protocol, ignored, killed_server, killed_script, files_as_streams,
+          tree_from_pipe, other_pipes)

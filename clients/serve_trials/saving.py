@@ -1,5 +1,6 @@
 """Files of --save: several sessions, folders, full disks, links, permissions, other users."""
 import os
+import resource
 import signal
 import subprocess
 
@@ -270,5 +271,20 @@ def malformed(steps, room):
         steps.check(f"{name}: nothing is left", room.left() == ["bad", "t"] and room.names() == [], f"{room.left()}")
 
 
+def few_descriptors(steps, room):
+    """Where the system does not let a session begin, nothing is left beside the file of --save."""
+    for count in range(5, 16):
+        server = room.serve("--save", "saved", "--log", "log", kind="pipes",
+                            preexec_fn=lambda: resource.setrlimit(resource.RLIMIT_NOFILE, (count, count)))
+        server.close_input()
+        status, said = server.status(), server.errors()
+        begun = ["saved"] if status in (0, 1) else []
+        (room.folder / "log").unlink(missing_ok=True)
+        steps.check(f"{count} descriptors: a session, or status 3, and no file beside", status in (0, 1, 3) and
+                    room.left() == [*begun, "t"] and "Traceback" not in said, f"{status}: {said} {room.left()}")
+        (room.folder / "saved").unlink(missing_ok=True)
+        room.end_servers()
+
+
 TRIALS = (one_after_the_other, two_at_once, many_that_end_at_once, another_file, changed_meanwhile, links, no_files,
-          full_disk, other_users, lost_folder, held_lock, malformed)
+          full_disk, other_users, lost_folder, held_lock, malformed, few_descriptors)

@@ -8,6 +8,8 @@ import os
 import select
 import stat
 
+from recording import ways
+
 try:
     import _socket as sockets
 except ImportError:
@@ -59,9 +61,10 @@ class Given:
 
 
 class Filled:
-    """A pipe to the server, which is filled with what comes."""
+    """A pipe to the server, which is filled with what comes from a stream: standard input, or a FIFO."""
 
-    def __init__(self):
+    def __init__(self, source: int = 0):
+        self.source = source
         self.server_end, self.pipe = os.pipe2(os.O_CLOEXEC)
         self.is_open, self.is_full = True, False
         # how much is still to come, once the end is wanted
@@ -78,15 +81,22 @@ class Filled:
         """What to wait for: what comes, or room for it; and that the server takes no more."""
         if not self.is_open:
             return {}
-        return {self.pipe: select.POLLOUT} if self.is_full else {0: select.POLLIN, self.pipe: 0}
+        return {self.pipe: select.POLLOUT} if self.is_full else {self.source: select.POLLIN, self.pipe: 0}
+
+    def go_on(self, file: int, is_broken: bool):
+        """Does what an event of one of the two descriptors asks for."""
+        if file == self.pipe and is_broken:
+            self.close()
+        else:
+            self.fill()
 
     def fill(self):
         """Moves what has come, as far as there is room."""
         try:
-            count = self.move(self.pipe, ROOM if self.left is None else min(ROOM, self.left))
+            count = self.move(self.source, self.pipe, ROOM if self.left is None else min(ROOM, self.left))
         except BlockingIOError:
             # either nothing has come, or there is no room
-            self.is_full = has(0, select.POLLIN)
+            self.is_full = has(self.source, select.POLLIN)
             return
         except BrokenPipeError:
             self.close()
@@ -107,7 +117,7 @@ class Filled:
     def end(self):
         """What has come by now still goes to the server."""
         if self.is_open and self.left is None:
-            self.left = waiting(0)
+            self.left = waiting(self.source)
             if not self.left:
                 self.close()
 
@@ -116,19 +126,73 @@ class Filled:
         self.is_open = False
         os.close(self.pipe)
         nothing = os.open(os.devnull, os.O_RDONLY)
-        os.dup2(nothing, 0)
+        os.dup2(nothing, self.source)
         os.close(nothing)
 
 
-def spliced(pipe: int, count: int) -> int:
-    return os.splice(0, pipe, count, flags=os.SPLICE_F_MOVE | os.SPLICE_F_NONBLOCK)
+class NoTree:
+    """A tree file that the server opens by itself."""
+
+    server_end = None
+    is_open, is_full = False, False
+
+    def wanted(self) -> dict[int, int]:
+        return {}
+
+    def end(self):
+        pass
 
 
-def copied(pipe: int, count: int) -> int:
+def tree_of(name: str) -> Filled | NoTree:
+    """The tree file, if it is a FIFO: nobody may ever write to it, and who waits for that in the call that opens it is
+    ended by no signal that is kept from it."""
+    try:
+        with ways.place_led_to(name) as place:
+            found = place.state()
+            if found and stat.S_ISFIFO(found.st_mode) and os.path.exists("/proc/self/fd"):
+                return Filled(place.open(os.O_RDONLY | os.O_NONBLOCK))
+    except OSError:
+        # that it cannot be read is for the program to say
+        pass
+    return NoTree()
+
+
+class Waiting:
+    """The FIFOs whose other end the server may wait for when it opens them: by the name of each, how that end is
+    opened."""
+
+    def __init__(self, record: str | None, replay: str | None):
+        given = [(record, os.O_RDONLY), (replay, os.O_WRONLY)]
+        self.ends = {name: how for name, how in given if name is not None and is_fifo(name)}
+
+    def let_go(self):
+        """Opens and closes these ends, which nobody notices who does not wait for one."""
+        for name, how in self.ends.items():
+            try:
+                with ways.place_led_to(name) as place:
+                    os.close(place.open(how | os.O_NONBLOCK))
+            except OSError:
+                # the server is not there yet, or has it open
+                pass
+
+
+def is_fifo(name: str) -> bool:
+    try:
+        found = ways.end_of(name)[1]
+    except OSError:
+        return False
+    return found is not None and stat.S_ISFIFO(found.st_mode)
+
+
+def spliced(source: int, pipe: int, count: int) -> int:
+    return os.splice(source, pipe, count, flags=os.SPLICE_F_MOVE | os.SPLICE_F_NONBLOCK)
+
+
+def copied(source: int, pipe: int, count: int) -> int:
     """The same where splice does not work: no more than what a pipe with any room takes whole."""
     if not has(pipe, select.POLLOUT):
         raise BlockingIOError
-    data = os.read(0, min(count, select.PIPE_BUF))
+    data = os.read(source, min(count, select.PIPE_BUF))
     if data:
         os.write(pipe, data)
     return len(data)

@@ -23,7 +23,7 @@ class Misused(Exception):
 class Options:
     """The options of a session.
 
-    `passed` are the words for `sftpv3 serve`, and `save_place` is the place of the value of --save among them.
+    `passed` are the words for `sftpv3 serve`, and `places` has where among them the values of --tree and --save are.
     """
 
     def __init__(self):
@@ -32,14 +32,17 @@ class Options:
         self.grace: float = GRACE
         self.passed: list[str] = []
         self.left_out: list[str] = []
-        self.save_place = None
+        self.places: dict[str, int] = {}
         self.is_synced = True
 
-    def server_words(self, side: str | None) -> list[str]:
-        """The command of the server, which saves into the file `side`."""
+    def server_words(self, side: str | None, tree: int | None) -> list[str]:
+        """The command of the server, which saves into the file `side`, and reads the tree from this descriptor, if it
+        gets one."""
         passed = list(self.passed)
         if side is not None:
-            passed[self.save_place] = side
+            passed[self.places["--save"]] = side
+        if tree is not None:
+            passed[self.places["--tree"]] = f"/proc/self/fd/{tree}"
         usual = [it for it in USUAL if it not in passed and it not in self.left_out]
         return [self.program or program_beside(), "serve", *passed, *usual]
 
@@ -73,7 +76,7 @@ def note(options: Options, name: str, value: str):
             raise Misused("argument --save: it cannot be given twice")
         if not value:
             raise Misused("argument --save: a value is needed")
-        options.save_place = len(options.passed) - 1
+    options.places[name] = len(options.passed) - 1
     setattr(options, name[2:], value)
 
 

@@ -6,7 +6,7 @@ import time
 from recording import naming
 from recording.ways import refuse_link_of_another
 from recording.notices import Notices, write_error
-from serving.inputs import Filled, Given, is_local_socket, shut_output
+from serving.inputs import Filled, Given, Waiting, is_local_socket, shut_output, tree_of
 from serving.options import NAME, Misused, Options, read
 from serving.saving import Saving, Unfit
 
@@ -19,6 +19,8 @@ NOT_SAVED = 3
 NOT_RUN, NOT_FOUND = 126, 127
 
 ENDING = (signals.SIGTERM, signals.SIGHUP, signals.SIGINT)
+# How often, in milliseconds, a server that is to end is let go on where it waits for the other end of a FIFO.
+GLANCE = 500.0
 BROKEN = select.POLLERR | select.POLLHUP | select.POLLNVAL
 
 
@@ -106,8 +108,10 @@ class Session:
     def __init__(self, options: Options, log: Log, signs: Signals, side: str | None):
         self.grace, self.signs = options.grace, signs
         self.input = Given() if is_local_socket(0) else Filled()
+        self.tree = tree_of(options.tree)
+        self.waiting = Waiting(options.record, options.replay)
         self.lines = Lines(log) if log.log is not None else None
-        self.process = self.start(options.server_words(side))
+        self.process = self.start(options.server_words(side, self.tree.server_end))
         self.code = None
         # when the client's end is to be cut, and whether its input is ended
         self.until, self.is_ending = None, False
@@ -119,16 +123,17 @@ class Session:
             actions.append((os.POSIX_SPAWN_DUP2, self.input.server_end, 0))
         if self.lines:
             actions.append((os.POSIX_SPAWN_DUP2, self.lines.theirs, 2))
+        if self.tree.server_end is not None:
+            os.set_inheritable(self.tree.server_end, True)
         try:
             process = os.posix_spawnp(words[0], words, os.environ, file_actions=actions, setsid=True, setsigmask=())
         except (FileNotFoundError, NotADirectoryError) as error:
             raise NotStarted(f"cannot run {words[0]}: {error.strerror}", NOT_FOUND) from None
         except (OSError, ValueError) as error:
             raise NotStarted(f"cannot run {words[0]}: {getattr(error, 'strerror', error)}", NOT_RUN) from None
-        if self.input.server_end is not None:
-            os.close(self.input.server_end)
-        if self.lines:
-            os.close(self.lines.theirs)
+        for it in (self.input.server_end, self.tree.server_end, self.lines and self.lines.theirs):
+            if it is not None:
+                os.close(it)
         return process
 
     def look(self):
@@ -139,14 +144,15 @@ class Session:
                 self.code = os.waitstatus_to_exitcode(status)
 
     def wanted(self) -> dict[int, int]:
-        wanted = {self.signs.ours: select.POLLIN, **self.input.wanted()}
+        wanted = {self.signs.ours: select.POLLIN, **self.input.wanted(), **self.tree.wanted()}
         if self.lines:
             wanted[self.lines.ours] = select.POLLIN
         return wanted
 
     def patience(self) -> float | None:
         """How many milliseconds to wait at most."""
-        return None if self.until is None else max(0.0, 1000 * (self.until - time.monotonic()))
+        left = None if self.until is None else max(0.0, 1000 * (self.until - time.monotonic()))
+        return GLANCE if self.is_ending and self.waiting.ends else left
 
     def act(self, file: int, found: int):
         """Does what the events of a descriptor ask for, unless what came before in the same round closed it."""
@@ -156,25 +162,27 @@ class Session:
         elif self.lines and file == self.lines.ours:
             if not self.lines.take():
                 self.lines = None
-        elif self.input.is_open:
-            if file != 0 and found & BROKEN:
-                self.input.close()
-            else:
-                self.input.fill()
+        else:
+            for it in (self.input, self.tree):
+                if it.is_open and file in (it.source, it.pipe):
+                    it.go_on(file, bool(found & BROKEN))
 
     def hurry(self):
         """Ends the server's input after a signal, and after the grace cuts off a client that takes no replies."""
         if not self.is_ending:
             self.is_ending = True
             self.input.end()
+            self.tree.end()
             self.until = time.monotonic() + self.grace
+        self.waiting.let_go()
         if self.until is not None and time.monotonic() >= self.until:
             self.until = None
             shut_output()
 
     def state(self) -> tuple[bool, ...]:
         """What the descriptors to wait for depend on."""
-        return self.input.is_open, self.input.is_full, self.lines is not None
+        return (self.input.is_open, self.input.is_full, self.tree.is_open, self.tree.is_full,
+                self.lines is not None)
 
     def run(self) -> int:
         """Waits until the server has ended. Returns its status; 128 and the number of the signal that ended it."""
@@ -241,6 +249,10 @@ def play(options: Options, log: Log, signs: Signals) -> int:
             saving.discard()
         log.say(str(error))
         return error.status
+    except BaseException:
+        if saving:
+            saving.discard()
+        raise
     signs.catch()
     # it may have ended before its end could wake the loop
     session.look()

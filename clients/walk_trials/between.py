@@ -13,7 +13,7 @@ import time
 sys.path.insert(0, os.path.dirname(os.path.dirname(os.path.realpath(__file__))))
 
 import sftp3  # noqa: E402 (the folder above is not searched before)
-from probing import misbehaving  # noqa: E402
+from probing import misbehaving, planted  # noqa: E402
 from probing.faulty import data_of, names_of, with_data, with_names  # noqa: E402
 from probing.misbehaving import Healthy, status, write  # noqa: E402
 
@@ -382,4 +382,4 @@ class goes_away(Meanwhile):
 
 
 if __name__ == "__main__":
-    misbehaving.main(globals())
+    misbehaving.main(planted.classes(globals()))
