@@ -245,7 +245,7 @@ class Player:
 def play(server, tree_file, steps, in_flight, timeout=TIMEOUT, stop=None, cut=None):
     """The session of these steps. `cut` is a number that says which of them go in pieces, or None."""
     running = server.start(tree_file, timeout * OPENING, stop)
-    player = Player(running, steps, in_flight, timeout, stop, cut)
+    player = Player(running, map(server.in_order, steps), in_flight, timeout, stop, cut)
     why = None
     try:
         player.play()
