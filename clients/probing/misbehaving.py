@@ -314,6 +314,20 @@ class later_codes(Healthy):
         return status(asked.number, 9) if is_refused and asked.name == "CLOSE" else packet
 
 
+class unknown_unanswered(Healthy):
+    """Each second OPEN to write is refused, and a request through a handle that was never given has no reply."""
+
+    def __init__(self):
+        super().__init__()
+        self.opened = 0
+
+    def reply(self, asked, packet):
+        if b"never given" in (asked.handle() or b""):
+            return b""
+        self.opened += asked.name == "OPEN"
+        return status(asked.number, sftp3.FAILURE) if asked.name == "OPEN" and self.opened % 2 == 0 else packet
+
+
 class long_texts(Healthy):
     """Each STATUS has a text of 250,000 bytes, which every reply may."""
 

@@ -125,7 +125,7 @@ class Run:
         self.try_profile(auditor, os.path.join(folder, "asked.tree"))
         # what was recorded is sent as it is
         is_link_first = given.symlink == "draft" and not self.recorded
-        server = sessions.Server(given.command, given.reset, left, is_link_first)
+        server = sessions.Server(given.command, given.reset, left, is_link_first, "BadHandle" in given.skip)
         is_known = server.takes_tree() or given.look_first is not None
         if not is_known and not given.tree:
             raise options.Wrong(ownfiles.NO_TREE)

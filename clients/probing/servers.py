@@ -50,10 +50,11 @@ class ResetFailed(NotStarted):
 class Server:
     """How to start the server. `{tree}` in a word of its command or of `reset` stands for the name of the tree file.
     With `leftovers`, what it leaves running is ended. With `link_first` it takes the paths of SYMLINK in the order of
-    the draft; plans have them in OpenSSH's."""
+    the draft; plans have them in OpenSSH's. With `only_given` nothing is asked through handles that it never gave."""
 
-    def __init__(self, command, reset=None, leftovers=None, link_first=False):
-        self.command, self.reset, self.leftovers, self.link_first = command, reset, leftovers, link_first
+    def __init__(self, command, reset=None, leftovers=None, link_first=False, only_given=False):
+        self.command, self.reset, self.leftovers = command, reset, leftovers
+        self.link_first, self.only_given = link_first, only_given
 
     def in_order(self, step):
         """The step as it is sent to this server."""
