@@ -123,9 +123,9 @@ class Run:
         auditor.options = self.profile(auditor)
         self.auditor = auditor
         self.try_profile(auditor, os.path.join(folder, "asked.tree"))
-        # what was recorded is sent as it is
-        is_link_first = given.symlink == "draft" and not self.recorded
-        server = sessions.Server(given.command, given.reset, left, is_link_first, "BadHandle" in given.skip)
+        server = sessions.Server(given.command, given.reset, left, given.symlink == "draft", "BadHandle" in given.skip)
+        # a record has the order of its server, a plan that of OpenSSH
+        self.recorded = self.recorded and list(map(server.in_order, self.recorded))
         is_known = server.takes_tree() or given.look_first is not None
         if not is_known and not given.tree:
             raise options.Wrong(ownfiles.NO_TREE)
