@@ -37,7 +37,7 @@ class Byte:
         if self.packet == KIND:
             return f"0x{byte:02x} ({packets.REPLIES.get(byte, ('unknown',))[0]})"
         if self.packet == CODE:
-            return f"0x{byte:02x} ({sftp3.CODES.get(byte, 'unknown')})"
+            return f"0x{byte:02x} ({sftp3.code_name(byte)})"
         return f"0x{byte:02x}" + (f" {packets.quoted(bytes([byte]))}" if byte in packets.PLAIN else "")
 
     def text(self):

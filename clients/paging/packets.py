@@ -62,7 +62,7 @@ def escaped(sign):
 
 
 def code_of(code):
-    return f"{code} {sftp3.CODES.get(code, 'unknown')}"
+    return f"{code} {sftp3.code_name(code)}"
 
 
 def flags_of(flags):

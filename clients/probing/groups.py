@@ -22,6 +22,9 @@ JUDGED = ("NotAllowed", "NotModelled")
 
 FIELDS = [("size", "size"), ("uid", "user"), ("gid", "group"), ("permissions", "permissions")]
 
+# Those that are lacking together, by what is said then: "no owner".
+LACKED = {"size": ["size"], "owner": ["uid", "gid"]}
+
 
 # Why a session is kept as it came: it did not show the difference again, there was no time to shrink it, or the reply
 # came after all when the shrunk session was played with the whole timeout.
@@ -35,6 +38,8 @@ class Group:
         self.key, (self.request, self.causes, self.expected, self.found) = key, key
         # the departures of a profile that would accept it
         self.allowed = first.verdict.lines.get("allowed by")
+        # the options of a profile with which it would be accepted
+        self.accepted_with = []
         # how many there are, and the seeds of their sessions
         self.count, self.seeds = 0, []
         # the first of them, with the steps of its plan
@@ -81,6 +86,7 @@ class Group:
         lines = [f"request: {self.request}", f"causes: {', '.join(self.causes) or 'none'}",
                  f"expected: {self.expected}", f"found: {self.found}"]
         lines += [f"allowed by: {self.allowed}"] if self.allowed else []
+        lines += [f"accepted with: {' or '.join(self.accepted_with)}"] if self.accepted_with else []
         session = (self.shortest.difference if self.shortest else self.first).session
         if session.ended or self.first.verdict.kind in ("NotStarted", "Ended"):
             lines += [f"standard error: {line}" for line in session.last_words()]
@@ -129,14 +135,14 @@ def of_reply(line):
     """What a line of `show` says of a reply: `6 S STATUS 3 21 code 0`."""
     words = line.split()
     if len(words) > 6 and words[2] == "STATUS":
-        return f"STATUS with code {words[6]} ({sftp3.CODES.get(int(words[6]), 'unknown')})"
+        return f"STATUS with code {words[6]} ({sftp3.code_name(int(words[6]))})"
     return words[2] if len(words) > 2 else line
 
 
 def alike(expected, found):
     """Expected and found without the names and numbers that are the case's own."""
     if expected.startswith("ATTRS with") and found.startswith("ATTRS with"):
-        return "ATTRS of " + kind(expected), "ATTRS with another " + others(expected, found)
+        return "ATTRS of " + kind(expected), "ATTRS " + others(expected, found)
     if expected.startswith("DATA"):
         return "DATA", of_data(expected, found)
     if expected.startswith("NAME with some"):
@@ -163,8 +169,12 @@ def kind(text):
 
 
 def others(one, other):
-    """The names of the attributes that differ."""
-    return ", ".join(name for field, name in FIELDS if number(one, field) != number(other, field)) or "value"
+    """The names of the attributes that differ, or what the other lacks, if all others are the same."""
+    lacking = [name for name in ("size", "owner") if f"no {name}" in other and f"no {name}" not in one]
+    gone = {field for name in lacking for field in LACKED[name]}
+    found = [name for field, name in FIELDS if field not in gone and number(one, field) != number(other, field)]
+    said = ["with another " + ", ".join(found or ["value"])] if found or not lacking else []
+    return " and ".join(said + [f"without {name}" for name in lacking])
 
 
 def of_data(expected, found):
@@ -184,7 +194,7 @@ def of_names(found):
         return "a name that comes twice"
     if " has " in found and ", not " in found:
         has, wanted = found.split(" has ", 1)[1].split(", not ", 1)
-        return f"a name of {kind(wanted)} with another {others(wanted, has)}"
+        return f"a name of {kind(wanted)} {others(wanted, has)}"
     return plain(found)
 
 

@@ -17,6 +17,10 @@ import sftp3  # noqa: E402 (the folder above is not searched before)
 from probing import planted  # noqa: E402
 
 
+# The flag of an owner among attributes.
+OWNER = 2
+
+
 def status(number, code):
     return sftp3.packet(sftp3.STATUS, number.to_bytes(4, "big") + code.to_bytes(4, "big") + bytes(8))
 
@@ -33,6 +37,10 @@ class Healthy:
 
     def before(self, asked):
         """What is done before a request is passed on. `count` says which it is, from 1."""
+
+    def request(self, asked, packet):
+        """What the server gets for this request."""
+        return packet
 
     def reply(self, asked, packet):
         """What the client gets for this reply."""
@@ -279,6 +287,47 @@ class data_for_all(Healthy):
         return packet
 
 
+class link_first(Healthy):
+    """SYMLINK takes its paths in the order of the draft."""
+
+    def request(self, asked, packet):
+        if asked.name != "SYMLINK":
+            return packet
+        return sftp3.encode(sftp3.Request(asked.number, asked.name, asked.fields[::-1]))
+
+
+class without_owners(Healthy):
+    """The attributes of things have no owner."""
+
+    def reply(self, asked, packet):
+        if packet[4] != sftp3.ATTRS:
+            return packet
+        flags = int.from_bytes(packet[9:13], "big") & ~OWNER
+        return sftp3.packet(sftp3.ATTRS, packet[5:9] + flags.to_bytes(4, "big") + packet[13:21] + packet[29:])
+
+
+class later_codes(Healthy):
+    """A handle that is none is refused with a code that later versions have."""
+
+    def reply(self, asked, packet):
+        is_refused = packet[4] == sftp3.STATUS and packet[9:13] == sftp3.FAILURE.to_bytes(4, "big")
+        return status(asked.number, 9) if is_refused and asked.name == "CLOSE" else packet
+
+
+class unknown_unanswered(Healthy):
+    """Each second OPEN to write is refused, and a request through a handle that was never given has no reply."""
+
+    def __init__(self):
+        super().__init__()
+        self.opened = 0
+
+    def reply(self, asked, packet):
+        if b"never given" in (asked.handle() or b""):
+            return b""
+        self.opened += asked.name == "OPEN"
+        return status(asked.number, sftp3.FAILURE) if asked.name == "OPEN" and self.opened % 2 == 0 else packet
+
+
 class long_texts(Healthy):
     """Each STATUS has a text of 250,000 bytes, which every reply may."""
 
@@ -407,7 +456,7 @@ def main(kinds):
             if asked:
                 kind.count += 1
                 kind.before(asked)
-            write(server.stdin.fileno(), packet)
+            write(server.stdin.fileno(), kind.request(asked, packet) if asked else packet)
             write(1, kind.reply(asked, next(replies)) if asked else kind.version(next(replies)))
         server.stdin.close()
         write(1, kind.end())

@@ -108,8 +108,8 @@ def of_group(number, group):
     byte = byte_of(difference.verdict.lines, judged(difference, ""))
     return {"kind": number, "group": group.leader.number if group.leader else number, "request": group.request,
             "causes": list(group.causes), "expected": group.expected, "found": group.found,
-            "allowed_by": group.allowed, "count": group.count, "seeds": group.seeds,
-            "requests": len(group.shortest.steps) if group.shortest else None,
+            "allowed_by": group.allowed, "accepted_with": group.accepted_with, "count": group.count,
+            "seeds": group.seeds, "requests": len(group.shortest.steps) if group.shortest else None,
             "kept": group.kept and group.kept[0], "story": group.story(), "verdict": group.first.verdict.kind,
             "byte": byte and byte.as_dictionary()}
 

@@ -2,12 +2,13 @@
 import os
 import sys
 import time
+from contextlib import suppress
 from dataclasses import dataclass, field
 from typing import List, Optional
 
 from paging import document
-from probing import (below, features, groups, limits, options, ownfiles, planner, plans, program, reports, sessions,
-                     shrinking, starting, verdicts)
+from probing import (below, features, groups, hints, limits, options, ownfiles, planner, plans, program, reports,
+                     sessions, shrinking, starting, verdicts)
 from probing.sessions import NotStarted
 from sftp3 import trees
 from walking import bounds
@@ -110,7 +111,7 @@ class Run:
     """One run of the command."""
 
     def __init__(self, given, folder, halt, left):
-        self.given, self.halt = given, halt
+        self.given, self.halt, self.folder = given, halt, folder
         options.can_write("--keep", given.keep)
         if given.report:
             options.can_write("--report", given.report)
@@ -120,7 +121,11 @@ class Run:
         self.program = program.program()
         auditor = verdicts.Auditor(self.program, folder)
         auditor.options = self.profile(auditor)
-        server = sessions.Server(given.command, given.reset, left)
+        self.auditor = auditor
+        self.try_profile(auditor, os.path.join(folder, "asked.tree"))
+        server = sessions.Server(given.command, given.reset, left, given.symlink == "draft", "BadHandle" in given.skip)
+        # a record has the order of its server, a plan that of OpenSSH
+        self.recorded = self.recorded and list(map(server.in_order, self.recorded))
         is_known = server.takes_tree() or given.look_first is not None
         if not is_known and not given.tree:
             raise options.Wrong(ownfiles.NO_TREE)
@@ -158,6 +163,15 @@ class Run:
         if unknown:
             program.say(f"probe: this program audits strictly: it has no {', '.join(unknown)}", sys.stderr)
         return words
+
+    def try_profile(self, auditor, tree_file):
+        """Has the program say, before anything is played, whether it takes these options."""
+        trees.write(self.tree, tree_file)
+        try:
+            with suppress(sessions.Stopped):
+                auditor.try_options(tree_file, self.halt)
+        except verdicts.Misused as error:
+            raise options.Wrong(str(error)) from None
 
     def tasks(self):
         """A task for each session: it plans, plays and judges it."""
@@ -218,6 +232,12 @@ class Run:
         self.progress.clear()
         groups.arrange(self.groups.all())
 
+    def hint(self):
+        """Says of each difference which options would accept it, as far as there is time."""
+        until = limits.Until(self.until, hints.SECONDS)
+        with suppress(sessions.Stopped):
+            hints.put_hints(self.groups.all(), self.auditor, self.tree, self.folder, until)
+
     def keep(self, group):
         """Keeps the session of a group."""
         shown = group.shortest or shrinking.Shown(group.steps, self.tree, group.first)
@@ -262,6 +282,7 @@ class Run:
             self.play()
             self.progress.clear()
             self.shrink()
+            self.hint()
         except Exception as error:  # noqa: BLE001 (what was found is reported first, whatever failed)
             trouble = error
             self.progress.clear()

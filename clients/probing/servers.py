@@ -5,6 +5,7 @@ What it leaves running are processes that lost the one that started them, and ge
 Those of a session are known by a variable, or by the process group or session of its server, and end with it. Those
 that took care not to be known end with the run, unless they may be what --reset started, which goes on.
 """
+import copy
 import ctypes
 import errno
 import itertools
@@ -49,10 +50,20 @@ class ResetFailed(NotStarted):
 
 class Server:
     """How to start the server. `{tree}` in a word of its command or of `reset` stands for the name of the tree file.
-    With `leftovers`, what it leaves running is ended."""
+    With `leftovers`, what it leaves running is ended. With `link_first` it takes the paths of SYMLINK in the order of
+    the draft; plans have them in OpenSSH's. With `only_given` nothing is asked through handles that it never gave."""
 
-    def __init__(self, command, reset=None, leftovers=None):
+    def __init__(self, command, reset=None, leftovers=None, link_first=False, only_given=False):
         self.command, self.reset, self.leftovers = command, reset, leftovers
+        self.link_first, self.only_given = link_first, only_given
+
+    def in_order(self, step):
+        """The step as it is sent to this server."""
+        if not self.link_first or step.name != "SYMLINK":
+            return step
+        found = copy.copy(step)
+        found.fields = step.fields[::-1]
+        return found
 
     def takes_tree(self):
         return any("{tree}" in word for word in self.command + [self.reset or ""])

@@ -93,10 +93,12 @@ class Session:
 
 class Player:
     """Sends the steps, with up to `in_flight` of them unanswered, and records all that passes. Extensions that VERSION
-    does not announce are left out. `stop` is an event that ends it."""
+    does not announce are left out, and with `only_given` those through handles that were never given. `stop` is an
+    event that ends it."""
 
-    def __init__(self, running, steps, in_flight, timeout, stop, cut=None):
+    def __init__(self, running, steps, in_flight, timeout, stop, cut=None, only_given=False):
         self.running, self.in_flight, self.timeout, self.stop = running, in_flight, timeout, stop
+        self.only_given = only_given
         self.waiting = deque(steps)
         self.session = Session(in_flight, cut=cut)
         self.unanswered, self.handles = {}, {}
@@ -167,6 +169,9 @@ class Player:
             if opener is not None:
                 if opener in self.unanswered:
                     return
+                if self.only_given and opener not in self.handles:
+                    self.waiting.popleft()
+                    continue
                 known = self.handles.get(opener, b"never given %d" % opener)
                 given = [step.handle().of(known)] + given[1:]
             self.waiting.popleft()
@@ -245,7 +250,7 @@ class Player:
 def play(server, tree_file, steps, in_flight, timeout=TIMEOUT, stop=None, cut=None):
     """The session of these steps. `cut` is a number that says which of them go in pieces, or None."""
     running = server.start(tree_file, timeout * OPENING, stop)
-    player = Player(running, steps, in_flight, timeout, stop, cut)
+    player = Player(running, map(server.in_order, steps), in_flight, timeout, stop, cut, server.only_given)
     why = None
     try:
         player.play()

@@ -31,6 +31,10 @@ class Trouble(Exception):
         self.status = status
 
 
+class Misused(Exception):
+    """The program does not take these words: what it says of them."""
+
+
 @dataclass
 class Verdict:
     """What is said of a session: `accepted`, or the kind of a refusal or fault and the number of its record, from 1;
@@ -43,12 +47,24 @@ class Verdict:
     lines: Dict[str, str]
 
 
+# How the program begins what it says of words that it does not take, and the line for those who typed them.
+USAGE, HELP = "error: ", "For more information, "
+
+
+def of_usage(said):
+    """What the program says of words that it does not take, but for what it says of its own command line."""
+    lines = said.removeprefix(USAGE).splitlines()
+    return "\n".join(line for line in lines if line.strip() and not line.startswith(HELP))
+
+
 def of_audit(done):
     """The verdict of an audit that ran."""
     said, why = done.stdout.decode().strip(), done.stderr.decode().strip()
     accepted = done.returncode == 0
     found = re.match(r"refused record (\d+): (\w+)$", said) if done.returncode == 1 else \
         re.match(r"sftpv3: transcript: record (\d+): (.+)$", why, re.MULTILINE)
+    if done.returncode == 2 and why.startswith(USAGE):
+        raise Misused(of_usage(why))
     if not accepted and not found:
         raise Trouble(f"the audit ended {servers.ending(done.returncode)}: {' '.join(filter(None, (said, why)))}",
                       3 if done.returncode == 3 else 2)
@@ -93,6 +109,11 @@ class Auditor:
             file.write(sftp3.put_records(records))
         words = [self.program, "audit", "--explain", "--tree", tree_file, "--transcript", self.file] + self.options
         return of_audit(run(words, stop))
+
+    def try_options(self, tree_file, stop=None):
+        """Raises Misused if the program does not take a word of the options, before there is a session to judge."""
+        if self.options:
+            self.judge(tree_file, [], stop)
 
     def knows(self, option):
         """Whether the program's help lists this option of an audit."""

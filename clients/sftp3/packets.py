@@ -23,6 +23,12 @@ CODES = {OK: "OK", EOF: "EOF", NO_SUCH_FILE: "NO_SUCH_FILE", PERMISSION_DENIED: 
          FAILURE: "FAILURE", BAD_MESSAGE: "BAD_MESSAGE", 6: "NO_CONNECTION", 7: "CONNECTION_LOST",
          OP_UNSUPPORTED: "OP_UNSUPPORTED"}
 
+
+def code_name(code):
+    """What a code of a STATUS is called."""
+    return CODES.get(code, "no code of version 3")
+
+
 # The flags of OPEN.
 READ, WRITE, APPEND, CREAT, TRUNC, EXCL = 1, 2, 4, 8, 16, 32
 FLAGS = {"READ": READ, "WRITE": WRITE, "APPEND": APPEND, "CREAT": CREAT, "TRUNC": TRUNC, "EXCL": EXCL}

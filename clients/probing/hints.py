@@ -1,0 +1,85 @@
+"""Which options of a profile would accept the reply of a difference, if they were given otherwise. How a server is set
+up, or in which order it takes the paths of SYMLINK, its author may not know, and what differs does not say it.
+
+An option is named only if with it the whole session of the difference is accepted up to this reply, and this one, too.
+So a wrong order of SYMLINK's paths is not named where the session has others that were right.
+"""
+import os
+
+import sftp3
+from probing import verdicts
+from sftp3 import trees
+
+# The most seconds that all of this takes.
+SECONDS = 20
+
+# The values that are tried, of options that say how new files and directories are made.
+MADE = [("--umask", value) for value in ("000", "002", "022", "027", "077")] + \
+       [("--new-owner", value) for value in ("given", "group", "posix")]
+
+
+def pairs_of(words):
+    """The options among these words, each with its value."""
+    return dict(zip(words[::2], words[1::2]))
+
+
+def names(given, option):
+    return [name for name in given.get(option, "").split(",") if name]
+
+
+def is_made(given):
+    """Whether these options accept what a umask does to a new file."""
+    return ("--profile" in given or "made" in names(given, "--allow")) and "made" not in names(given, "--except")
+
+
+def otherwise(given, of_links, of_made):
+    """The options that are tried beside these, each with its value: those on links, and those on new files."""
+    found = [("--symlink", "draft")] if of_links and "--symlink" not in given else []
+    if of_made and is_made(given):
+        found += [pair for pair in MADE if given.get(pair[0]) != pair[1]] + [("--except", "made")]
+    elif of_made:
+        found += [("--allow", "made")]
+    return found
+
+
+def joined(given, option, value):
+    """These options with another value of one; with one name more, if it takes names."""
+    more = ",".join([*names(given, option), value]) if option in ("--allow", "--except") else value
+    return [word for pair in {**given, option: more}.items() for word in pair]
+
+
+def has_links(difference):
+    """Whether the session makes a link no later than at the request that differs."""
+    last = difference.verdict.record or 0
+    asked = (sftp3.decode(packet) for side, packet in difference.records[2:last] if side == b"C")
+    return any(one.name == "SYMLINK" for one in asked)
+
+
+def is_of_made(difference):
+    """Whether the permissions or the owner of something differ."""
+    lines = difference.verdict.lines
+    return all(" permissions " in lines.get(label, "") for label in ("expected", "found")) or \
+        ", not size " in lines.get("found", "")
+
+
+def of_difference(difference, auditor, tree_file, stop):
+    """The options that would accept the reply, as words. Raises Stopped once `stop` is set."""
+    if difference.verdict.kind != "NotAllowed":
+        return []
+    given, found = pairs_of(auditor.options), []
+    for option, value in otherwise(given, has_links(difference), is_of_made(difference)):
+        other = verdicts.Auditor(auditor.program, os.path.dirname(tree_file), joined(given, option, value))
+        verdict = other.judge(tree_file, difference.records, stop)
+        if verdict.accepted or (verdict.record or 0) > difference.verdict.record:
+            found.append(f"{option} {value}")
+    return found
+
+
+def put_hints(groups, auditor, tree, folder, stop):
+    """Puts into each group the options that would accept its first reply, until `stop` is set: then Stopped is
+    raised."""
+    tree_file = os.path.join(folder, "hinted.tree")
+    for group in groups:
+        with open(tree_file, "wb") as file:
+            file.write(group.first.session.start or trees.put(tree))
+        group.accepted_with = of_difference(group.first, auditor, tree_file, stop)
