@@ -10,9 +10,7 @@ RUNNING = os.path.join(TOP, "clients/running")
 # A client's program, its packages, and words of the shell that succeed if these are installed.
 CLIENTS = {"curl": ("by_curl", "curl", "curl --version | grep -qw sftp"),
            "psftp": ("by_psftp", "putty-tools", "command -v psftp && command -v puttygen"),
-           "net-sftp": ("by_ruby", "ruby-net-sftp", "ruby -e 'require \"net/sftp\"'"),
-           "JSch": ("by_jsch", "libjsch-java default-jdk-headless",
-                    "command -v javac && test -e /usr/share/java/jsch.jar")}
+           "net-sftp": ("by_ruby", "ruby-net-sftp", "ruby -e 'require \"net/sftp\"'")}
 
 
 def words(client):
