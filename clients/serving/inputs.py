@@ -130,31 +130,16 @@ class Filled:
         os.close(nothing)
 
 
-class NoTree:
-    """A tree file that the server opens by itself."""
-
-    server_end = None
-    is_open, is_full = False, False
-
-    def wanted(self) -> dict[int, int]:
-        return {}
-
-    def end(self):
-        pass
-
-
-def tree_of(name: str) -> Filled | NoTree:
+def tree_of(name: str) -> Filled | None:
     """The tree file, if it is a FIFO: nobody may ever write to it, and who waits for that in the call that opens it is
-    ended by no signal that is kept from it."""
+    ended by no signal that is kept from it. If it cannot be read, the program says so."""
     try:
         with ways.place_led_to(name) as place:
             found = place.state()
-            if found and stat.S_ISFIFO(found.st_mode) and os.path.exists("/proc/self/fd"):
-                return Filled(place.open(os.O_RDONLY | os.O_NONBLOCK))
+            is_pipe = found is not None and stat.S_ISFIFO(found.st_mode) and os.path.exists("/proc/self/fd")
+            return Filled(place.open(os.O_RDONLY | os.O_NONBLOCK)) if is_pipe else None
     except OSError:
-        # that it cannot be read is for the program to say
-        pass
-    return NoTree()
+        return None
 
 
 class Waiting:

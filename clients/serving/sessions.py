@@ -109,9 +109,10 @@ class Session:
         self.grace, self.signs = options.grace, signs
         self.input = Given() if is_local_socket(0) else Filled()
         self.tree = tree_of(options.tree)
+        self.streams = [it for it in (self.input, self.tree) if it]
         self.waiting = Waiting(options.record, options.replay)
         self.lines = Lines(log) if log.log is not None else None
-        self.process = self.start(options.server_words(side, self.tree.server_end))
+        self.process = self.start(options.server_words(side, self.tree and self.tree.server_end))
         self.code = None
         # when the client's end is to be cut, and whether its input is ended
         self.until, self.is_ending = None, False
@@ -123,7 +124,7 @@ class Session:
             actions.append((os.POSIX_SPAWN_DUP2, self.input.server_end, 0))
         if self.lines:
             actions.append((os.POSIX_SPAWN_DUP2, self.lines.theirs, 2))
-        if self.tree.server_end is not None:
+        if self.tree:
             os.set_inheritable(self.tree.server_end, True)
         try:
             process = os.posix_spawnp(words[0], words, os.environ, file_actions=actions, setsid=True, setsigmask=())
@@ -131,7 +132,7 @@ class Session:
             raise NotStarted(f"cannot run {words[0]}: {error.strerror}", NOT_FOUND) from None
         except (OSError, ValueError) as error:
             raise NotStarted(f"cannot run {words[0]}: {getattr(error, 'strerror', error)}", NOT_RUN) from None
-        for it in (self.input.server_end, self.tree.server_end, self.lines and self.lines.theirs):
+        for it in (*(stream.server_end for stream in self.streams), self.lines and self.lines.theirs):
             if it is not None:
                 os.close(it)
         return process
@@ -144,7 +145,9 @@ class Session:
                 self.code = os.waitstatus_to_exitcode(status)
 
     def wanted(self) -> dict[int, int]:
-        wanted = {self.signs.ours: select.POLLIN, **self.input.wanted(), **self.tree.wanted()}
+        wanted = {self.signs.ours: select.POLLIN}
+        for it in self.streams:
+            wanted.update(it.wanted())
         if self.lines:
             wanted[self.lines.ours] = select.POLLIN
         return wanted
@@ -163,7 +166,7 @@ class Session:
             if not self.lines.take():
                 self.lines = None
         else:
-            for it in (self.input, self.tree):
+            for it in self.streams:
                 if it.is_open and file in (it.source, it.pipe):
                     it.go_on(file, bool(found & BROKEN))
 
@@ -171,18 +174,17 @@ class Session:
         """Ends the server's input after a signal, and after the grace cuts off a client that takes no replies."""
         if not self.is_ending:
             self.is_ending = True
-            self.input.end()
-            self.tree.end()
+            for it in self.streams:
+                it.end()
             self.until = time.monotonic() + self.grace
         self.waiting.let_go()
         if self.until is not None and time.monotonic() >= self.until:
             self.until = None
             shut_output()
 
-    def state(self) -> tuple[bool, ...]:
+    def state(self) -> tuple:
         """What the descriptors to wait for depend on."""
-        return (self.input.is_open, self.input.is_full, self.tree.is_open, self.tree.is_full,
-                self.lines is not None)
+        return (*((it.is_open, it.is_full) for it in self.streams), self.lines is not None)
 
     def run(self) -> int:
         """Waits until the server has ended. Returns its status; 128 and the number of the signal that ended it."""
