@@ -27,6 +27,19 @@ fn before<'t>(path: &[u8], text: &'t [u8]) -> Option<&'t [u8]> {
     text.get(..home.max(1))
 }
 
+/// Whether a path is sure to be the text of a place below the root: it is absolute, has one slash before each name, and
+/// no name that begins with a dot, as `.` and `..` do.
+fn is_plain(path: &[u8]) -> bool {
+    let mut before = b' ';
+    for byte in path.iter() {
+        if before == b'/' && (*byte == b'/' || *byte == b'.') {
+            return false;
+        }
+        before = *byte;
+    }
+    path.first() == Some(&b'/') && before != b'/'
+}
+
 impl World {
     /// REALPATH told where a path leads.
     pub(crate) fn take_real(&mut self, path: &[u8], text: &[u8]) -> Result<(), Stop> {
@@ -38,7 +51,7 @@ impl World {
 
     fn take_place(&mut self, path: &[u8], text: &[u8], found: &Found<'_>) -> Result<(), Stop> {
         let place = self.place(found.parent, found.name(), false)?;
-        if place.as_slice() == text || !self.settings.is_strict {
+        if place.as_slice() == text || self.may_be_told(path, text, found.look) {
             drop(place);
             return Ok(());
         }
@@ -48,6 +61,16 @@ impl World {
             _ => 0,
         };
         self.clash_at_place(place, told, text)
+    }
+
+    /// Whether a server of the profile may have told this text of a path that leads to another place: it need not look
+    /// at the tree, and tells any text of a path that leads nowhere.
+    fn may_be_told(&self, path: &[u8], text: &[u8], look: Look) -> bool {
+        let is_there = match look {
+            Look::Entry(_) | Look::Unknown => true,
+            _ => false,
+        };
+        !self.settings.is_strict && (!is_there || text == path || !is_plain(path))
     }
 
     /// Proposes why a path leads to another place than it seems.
@@ -82,9 +105,10 @@ impl World {
         }
     }
 
-    /// Proposes that an entry, or the directory that it is in, is a link to what this text is the place of.
+    /// Proposes that an entry is a link to what this text is the place of, unless a reply showed of what kind it is by
+    /// itself.
     fn propose_link(&mut self, at: usize, text: &[u8]) {
-        if !self.is_shown(at) || self.sort(at) == Sort::Unknown {
+        if !self.entry(at).is_itself || !self.is_shown(at) || self.sort(at) == Sort::Unknown {
             self.propose_link_to(at, text);
         }
     }

@@ -187,6 +187,7 @@ impl World {
             None => length,
         };
         if known != length {
+            self.propose_beside(at, length);
             self.propose_link_astray(at, Some(length));
             return Err(self.clash_of(at, What::Size(known, length)));
         }

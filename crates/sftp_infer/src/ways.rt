@@ -161,6 +161,35 @@ impl World {
         }
     }
 
+    /// Proposes for a link whose target has another length than this that it leads to the same place by its name alone,
+    /// which is beside it.
+    pub(crate) fn propose_beside(&mut self, at: usize, length: u64) {
+        let Some(target) = self.copy_of_target(at) else {
+            return;
+        };
+        match self.place(self.entry(at).old_seat.parent, &[], true) {
+            Ok(above) => {
+                if let Some(name) = beside(target.as_slice(), above.as_slice()) {
+                    self.propose_fitting(at, Some(length), name);
+                }
+                drop(above);
+            }
+            Err(_) => self.lacks_memory = true,
+        }
+        drop(target);
+    }
+
+    /// A copy of the target of a link; `None` if it has none, and if memory runs out, which is noted.
+    fn copy_of_target(&mut self, at: usize) -> Option<Vec<u8>> {
+        match Vec::from_slice(self.alloc, self.target(at)?) {
+            Ok(target) => Some(target),
+            Err(_) => {
+                self.lacks_memory = true;
+                None
+            }
+        }
+    }
+
     /// Proposes a target for a link, if that has the link's length.
     fn propose_fitting(&mut self, at: usize, length: Option<u64>, target: &[u8]) {
         let count = target.len() as u64;
