@@ -108,11 +108,43 @@ impl Choices {
         if let Some(choice) = self.get(index) {
             for fact in choice.facts.iter() {
                 if is_assumed(&fact.says) {
-                    assumed.push(fact.try_clone(self.alloc)?)?;
+                    put_fact(fact.try_clone(self.alloc)?, assumed)?;
                 }
             }
         }
         Ok(())
+    }
+}
+
+/// Appends a fact. If it says otherwise what an earlier one says, it takes that one's place: a pass that begins with
+/// both goes by the later one.
+fn put_fact(fact: Fact, assumed: &mut Vec<Fact>) -> Result<(), NoMemory> {
+    match replaced_by(&fact, assumed.as_slice()) {
+        Some(index) => {
+            if let Some(earlier) = assumed.get_mut(index) {
+                drop(std::mem::replace(earlier, fact));
+            }
+            Ok(())
+        }
+        None => Ok(assumed.push(fact)?),
+    }
+}
+
+/// The index of the fact in whose place another one comes.
+fn replaced_by(fact: &Fact, assumed: &[Fact]) -> Option<usize> {
+    for (index, earlier) in assumed.iter().enumerate() {
+        if are_alike(&earlier.says, &fact.says) && earlier.place == fact.place {
+            return Some(index);
+        }
+    }
+    None
+}
+
+/// Whether of one place only one of these can hold.
+fn are_alike(one: &Says, other: &Says) -> bool {
+    match (one, other) {
+        (Says::Link(_), Says::Link(_)) | (Says::Size(_), Says::Size(_)) => true,
+        _ => false,
     }
 }
 
