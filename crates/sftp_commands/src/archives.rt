@@ -5,6 +5,7 @@ ghost use Rattle.sftp_treefile.specs.TreeFile.{IsTreeFile};
 ghost use Rattle.sftp_tar.specs.Archive.{archive};
 ghost use Rattle.sftp_files.specs.declared.messages.Ending.TheVariants as endings;
 
+use crate::faulty::{Found, START};
 use crate::trees::rows_in_view;
 use sftp_files::{
     Content, Ending, Failure, FileSink, ImportOptions, Keeping, Meter, STANDARD_INPUT,
@@ -140,17 +141,56 @@ fn taken<'a, I: Read>(
 ) -> Result<Imported, Failure<'a>>
     ensures { IfOk result (λ imported. IsTreeFile imported.file) }
 {
-    let mut bytes = Watched::new(input);
+    let mut begun = Begun::new(alloc, input);
+    let mut bytes = Watched::new(&mut begun);
     let imported = import_from(alloc, taking, meter, Tally::new(&mut bytes));
     let code = bytes.flow().code;
-    match imported {
+    drop(bytes);
+    let taken = match imported {
         Ok(imported) => Ok(imported),
         Err(ImportError::Io) => Err(Failure::CannotRead(STANDARD_INPUT, code)),
         Err(error) => {
-            let failure = unimported(alloc, meter, &error);
+            let failure = unimported(alloc, meter, &error, begun.start.as_slice());
             drop(error);
             Err(failure)
         }
+    };
+    drop(begun);
+    taken
+}
+
+/// A reader, and the first bytes that it read, as many as say what a file is.
+#[derive(Drop)]
+struct Begun<R> {
+    inner: R,
+    start: Vec<u8>,
+}
+
+impl<R> Begun<R> {
+    fn new(alloc: Global, inner: R) -> Begun<R> {
+        Begun {
+            inner,
+            start: Vec::new(alloc),
+        }
+    }
+
+    /// Keeps what was read, as far as it belongs to the first bytes. Without memory for them nobody says what they are.
+    fn keep(&mut self, bytes: &[u8]) {
+        let room = (START as usize).saturating_sub(self.start.len());
+        let kept = bytes.len().min(room);
+        if let Some(first) = bytes.get(..kept) {
+            let _ = self.start.extend_from_slice(first);
+        }
+    }
+}
+
+impl<R: Read> Read for Begun<R> {
+    fn read(&mut self, buffer: &mut [u8]) -> io::Result<usize> {
+        let done = self.inner.read(buffer);
+        if let Ok(count) = &done {
+            self.keep(buffer.get(..*count).unwrap_or(&[]));
+        }
+        done
     }
 }
 
@@ -181,16 +221,16 @@ fn name_specials<E: Write>(choice: SpecialChoice, specials: &[Special], errors: 
 }
 
 /// The failure of a run whose import ended in this error: the process had more memory than it may, or the error's own.
-fn unimported<'a>(alloc: Global, meter: &Meter, error: &ImportError) -> Failure<'a> {
+fn unimported<'a>(alloc: Global, meter: &Meter, error: &ImportError, start: &[u8]) -> Failure<'a> {
     if meter.is_over() {
         Failure::OverLimit(STANDARD_INPUT)
     } else {
-        archive_failure(alloc, error)
+        archive_failure(alloc, error, start)
     }
 }
 
-/// The failure of a run whose import ended in this error.
-fn archive_failure<'a>(alloc: Global, error: &ImportError) -> Failure<'a> {
+/// The failure of a run whose import ended in this error, behind these first bytes.
+fn archive_failure<'a>(alloc: Global, error: &ImportError, start: &[u8]) -> Failure<'a> {
     match error {
         ImportError::NoMemory => Failure::OutOfMemory,
         ImportError::Io => Failure::CannotRead(STANDARD_INPUT, None),
@@ -203,7 +243,24 @@ fn archive_failure<'a>(alloc: Global, error: &ImportError) -> Failure<'a> {
             entry,
             path,
             refusal,
-        } => Failure::of_text(refused(alloc, *entry, path.as_slice(), *refusal)),
+        } => {
+            let found = found_instead(*entry, *refusal, start);
+            Failure::of_text(refused(alloc, *entry, path.as_slice(), *refusal, found))
+        }
+    }
+}
+
+/// What is said of the first bytes beside a refusal: what they are, if the first entry has nothing that can be taken.
+fn found_instead(entry: u32, refusal: Refusal, start: &[u8]) -> Found<'_> {
+    match refusal {
+        Refusal::Truncated | Refusal::Checksum | Refusal::Number | Refusal::UnknownType => Found {
+            start,
+            is_told: entry == 1,
+        },
+        _ => Found {
+            start,
+            is_told: false,
+        },
     }
 }
 
@@ -231,12 +288,18 @@ impl fmt::Display for Shown<'_> {
 }
 
 /// The message for an entry that is refused. An entry that cannot be read has no path.
-fn refused(alloc: Global, entry: u32, path: &[u8], refusal: Refusal) -> Result<String, AllocError> {
+fn refused(
+    alloc: Global,
+    entry: u32,
+    path: &[u8],
+    refusal: Refusal,
+    found: Found<'_>,
+) -> Result<String, AllocError> {
     if path.is_empty() {
-        format!(in alloc; "archive: entry {entry}: {refusal}")
+        format!(in alloc; "archive: entry {entry}: {refusal}{found}")
     } else {
         let path = Shown(path);
-        format!(in alloc; "archive: entry {entry}, {path}: {refusal}")
+        format!(in alloc; "archive: entry {entry}, {path}: {refusal}{found}")
     }
 }
 

@@ -1,6 +1,6 @@
 //! What is known of a malformed file beside its fault: its name, and whether it is a file of another kind.
 
-use sftp_files::{Failure, Named, is_read_again, write_flushed};
+use sftp_files::{Failure, Named, STANDARD_INPUT, is_read_again, write_flushed};
 use sftp_transcript::TranscriptError;
 use sftp_treefile::TreeError;
 use std::fs::Files;
@@ -8,7 +8,7 @@ use std::io::{Read, Write};
 use std::{fmt, fs};
 
 /// How many bytes of a file say of which kind it is: those of the first block of an archive.
-const START: u64 = 512;
+pub(crate) const START: u64 = 512;
 
 /// Where the first block of an archive has its mark.
 const MARK_PLACE: usize = 257;
@@ -22,6 +22,7 @@ enum Role {
     Tree,
     Transcript,
     Either,
+    Archive,
 }
 
 impl Role {
@@ -31,6 +32,7 @@ impl Role {
             Role::Tree => ", not a tree file",
             Role::Transcript => ", not a transcript",
             Role::Either => ", neither a transcript nor a tree file",
+            Role::Archive => ", not an archive of tar",
         }
     }
 }
@@ -46,6 +48,12 @@ pub(crate) enum Format {
     Xz,
     Zstd,
     Bzip2,
+    Lzip,
+    Compress,
+    Zip,
+    SevenZip,
+    Page,
+    Text,
 }
 
 impl Format {
@@ -60,6 +68,12 @@ impl Format {
             Format::Xz => "xz",
             Format::Zstd => "zstd",
             Format::Bzip2 => "bzip2",
+            Format::Lzip => "lzip",
+            Format::Compress => "compress",
+            Format::Zip => "zip",
+            Format::SevenZip => "7z",
+            Format::Page => "html",
+            Format::Text => "text",
         }
     }
 
@@ -74,6 +88,12 @@ impl Format {
             Format::Xz => "compressed by xz",
             Format::Zstd => "compressed by zstd",
             Format::Bzip2 => "compressed by bzip2",
+            Format::Lzip => "compressed by lzip",
+            Format::Compress => "compressed by compress",
+            Format::Zip => "an archive of zip",
+            Format::SevenZip => "an archive of 7z",
+            Format::Page => "a page of HTML",
+            Format::Text => "a text as 'show' prints it",
         }
     }
 }
@@ -140,6 +160,8 @@ fn advice(format: Format, taken_for: Role) -> &'static str {
     match (format, taken_for) {
         (Format::Empty, _) => "",
         (Format::Archive, Role::Tree) => ", not a tree file; 'sftpv3 import' makes one of it",
+        (Format::Text, Role::Tree) => ", not a tree file; 'sftpv3 make' makes one of it",
+        (Format::Text, Role::Transcript) => ", not a transcript; 'sftpv3 make' makes one of it",
         _ => taken_for.lack(),
     }
 }
@@ -203,6 +225,21 @@ fn format_of(start: &[u8]) -> Option<Format> {
         Some(Format::Tree)
     } else if start.get(MARK_PLACE..).unwrap_or(&[]).starts_with(MARK) {
         Some(Format::Archive)
+    } else if is_text(start) {
+        Some(Format::Text)
+    } else {
+        foreign_format_of(start)
+    }
+}
+
+/// What a file with these first bytes is, if it is none of this program's and no archive of tar.
+fn foreign_format_of(start: &[u8]) -> Option<Format> {
+    if start.starts_with(b"PK\x03\x04") || start.starts_with(b"PK\x05\x06") {
+        Some(Format::Zip)
+    } else if start.starts_with(b"7z\xbc\xaf\x27\x1c") {
+        Some(Format::SevenZip)
+    } else if is_page(start) {
+        Some(Format::Page)
     } else {
         compression_of(start)
     }
@@ -218,9 +255,26 @@ fn compression_of(start: &[u8]) -> Option<Format> {
         Some(Format::Zstd)
     } else if start.starts_with(b"BZh") {
         Some(Format::Bzip2)
+    } else if start.starts_with(b"LZIP") {
+        Some(Format::Lzip)
+    } else if start.starts_with(b"\x1f\x9d") {
+        Some(Format::Compress)
     } else {
         None
     }
+}
+
+/// Whether a file that begins so is a page of HTML, which is what a failed download may leave.
+fn is_page(start: &[u8]) -> bool {
+    start.starts_with(b"<!DOCTYPE html")
+        || start.starts_with(b"<!doctype html")
+        || start.starts_with(b"<html")
+        || start.starts_with(b"<HTML")
+}
+
+/// Whether a file that begins so is the text of a tree file or of a transcript.
+fn is_text(start: &[u8]) -> bool {
+    start.starts_with(b"home \"") || start.starts_with(b"C INIT ")
 }
 
 /// Whether a file that begins so is a tree file.
@@ -228,4 +282,52 @@ fn is_tree_file(start: &[u8]) -> bool {
     start.starts_with(b"SFTREE01")
         || start.starts_with(b"SFTREE02")
         || start.starts_with(b"SFTREE03")
+}
+
+/// What standard input is, by its first bytes, where no archive begins with them. It is a line, if it is to be told.
+#[derive(Clone, Copy)]
+pub(crate) struct Found<'a> {
+    pub(crate) start: &'a [u8],
+    pub(crate) is_told: bool,
+}
+
+impl fmt::Display for Found<'_> {
+    fn fmt<W: fmt::Write>(&self, f: &mut fmt::Formatter<W>) -> fmt::Result {
+        if !self.is_told {
+            return Ok(());
+        }
+        match format_of(self.start) {
+            Some(Format::Archive) => put_way(f, way_of(self.start)),
+            Some(format) => {
+                let text = format.text();
+                let advice = advice(format, Role::Archive);
+                write!(f, "\nsftpv3: {STANDARD_INPUT} is {text}{advice}")
+            }
+            None => Ok(()),
+        }
+    }
+}
+
+/// Writes the line about an archive that was made in a way of which an import takes none, if it was.
+fn put_way<W: fmt::Write>(f: &mut fmt::Formatter<W>, way: Option<&str>) -> fmt::Result {
+    match way {
+        Some(way) => write!(
+            f,
+            "\nsftpv3: made by tar with {way}: make the archive without it"
+        ),
+        None => Ok(()),
+    }
+}
+
+/// Where the first block of an archive has the type of its member.
+const TYPE_PLACE: usize = 156;
+
+/// The option of GNU tar that made an archive with this first block, if an import does not take what it makes.
+fn way_of(start: &[u8]) -> Option<&'static str> {
+    match start.get(TYPE_PLACE) {
+        Some(b'D') => Some("--incremental or --listed-incremental"),
+        Some(b'M') => Some("--multi-volume"),
+        Some(b'V') => Some("--label"),
+        _ => None,
+    }
 }
