@@ -118,6 +118,26 @@ def hanging_daemon(steps, room):
         spool.end()
 
 
+def begun_and_left(steps, room):
+    """A recorder that is killed before it has sent the beginning of its record: no empty one is left."""
+    spool = Spool(room, "--records-per-user", "2")
+    for _ in range(3):
+        with socket.socket(socket.AF_UNIX) as link:
+            link.connect(str(spool.socket))
+            link.sendall(b"SFTPSP01\0")
+            begun = link.recv(8)
+    steps.check("a recorder that begins a record may do so again, where the last was left empty", begun == bytes(8))
+    end = time.monotonic() + SOON
+    while spool.records() and time.monotonic() < end:
+        time.sleep(0.05)
+    steps.check("a record that was begun and left is none", not spool.records(), spool.records())
+    process = spool.session()
+    open_session(process)
+    close(process.stdin)
+    ended(process, SOON)
+    steps.check("one with a session stays", spool.end() == 0 and len(spool.records()) == 1, spool.records())
+
+
 def limits(steps, room):
     for name, options in (("--per-session", ["--per-session", "100K"]), ("--per-user", ["--per-user", "100K"]),
                           ("--keep-free", ["--keep-free", "1000T"])):
@@ -284,4 +304,5 @@ def other_user(steps, room):
         remove_user(OTHER)
 
 
-TRIALS = (kept, lost_spools, hanging_daemon, limits, hostile, unfit, activated, few_files, units, other_user)
+TRIALS = (kept, lost_spools, hanging_daemon, begun_and_left, limits, hostile, unfit, activated, few_files, units,
+          other_user)
