@@ -1,11 +1,12 @@
 """Runs of clients/nightly that are killed before each step on files that they do: the next run goes on as if nothing had
-happened. So it is with each system call killed by strace, which takes longer."""
+happened. And recorders that are killed before each thing that they write: the night blames nobody for it."""
 import shutil
 import signal
 import subprocess
 from concurrent.futures import ThreadPoolExecutor
 
-from night_trials.place import ENDS_WELL, USER, changed
+from night_trials.place import ENDS_WELL, USER, Place, changed
+from record_trials.steps import TOP
 
 # How many runs are tried at once.
 AT_ONCE = 4
@@ -109,4 +110,58 @@ def killed_when_refusing(place):
                                               "unjudged": [third]})
 
 
-TRIALS = (killed_when_accepting, killed_when_refusing)
+# A recorder that is killed before one of the calls by which it writes records, and passes packets on.
+KILLED_RECORDER = """#!/usr/bin/python3 -IS
+import os, runpy, signal, sys
+left = {number}
+def counted(step):
+    def call(*words):
+        global left
+        left -= 1
+        if left == 0:
+            os.kill(os.getpid(), signal.SIGKILL)
+        return step(*words)
+    return call
+for name in ("write", "writev", "ftruncate"):
+    setattr(os, name, counted(getattr(os, name)))
+sys.argv[0] = {record!r}
+runpy.run_path(sys.argv[0], run_name="__main__")
+"""
+
+# What a night may say of a session whose recorder was killed: nothing had passed, all that did is right, or so much of
+# it is, and nobody knows whether the server did the rest.
+NO_BLAME = (f"1 session accepted; {ENDS_WELL}", f"1 of them with unanswered requests; {ENDS_WELL}",
+            "changed the folder, or requests of theirs that were not judged:", f"0 sessions accepted; {ENDS_WELL}")
+
+
+def kill_recorder_at(place, number):
+    """Kills the recorder of a session at this call. Returns whether it came to that call, and what is wrong."""
+    room = place.room / f"call-{number}"
+    room.mkdir()
+    of_its_own = Place(room, place.steps)
+    of_its_own.nightly()
+    recorder = room / "recorder"
+    recorder.write_text(KILLED_RECORDER.format(number=number, record=str(TOP / "clients/record")))
+    recorder.chmod(0o755)
+    of_its_own.words[0] = recorder
+    is_whole = of_its_own.try_session("mkdir d", f"put {__file__} d/f", "ls -l d", "rename d/f g")
+    status, said = of_its_own.nightly()
+    is_well = status in (0, 1) and "refused" not in said and "Traceback" not in said and \
+        any(it in said for it in NO_BLAME) and not list(of_its_own.records.iterdir())
+    return not is_whole, "" if is_well else f"call {number}: {status}: {said}"
+
+
+def killed_recorders(place):
+    wrong, count, goes_on = [], 0, True
+    with ThreadPoolExecutor(AT_ONCE) as pool:
+        while goes_on:
+            numbers = range(count + 1, count + 1 + AT_ONCE)
+            found = list(pool.map(lambda number: kill_recorder_at(place, number), numbers))
+            goes_on = all(was_killed for was_killed, _ in found)
+            count += sum(was_killed for was_killed, _ in found)
+            wrong += [why for _, why in found if why]
+    place.steps.check(f"a recorder killed at each of {count} calls: the night refuses nothing, and blames no other",
+                      count > 20 and not wrong, f"{len(wrong)} wrong: {wrong[:3]}")
+
+
+TRIALS = (killed_when_accepting, killed_when_refusing, killed_recorders)

@@ -35,12 +35,18 @@ class Place:
 
     def session(self, *commands):
         """Plays a session, which has ended long enough to be audited."""
+        if not self.try_session(*commands):
+            raise subprocess.SubprocessError("the session failed")
+
+    def try_session(self, *commands):
+        """The same. Returns whether it went through."""
         server = self.room / "server"
         server.write_text(f"#!/bin/sh\nexec {' '.join(map(str, self.words))}\n")
         server.chmod(0o755)
-        subprocess.run(["sftp", "-q", "-b", "-", "-D", server], input="\n".join([f"cd {self.live}", *commands]),
-                       text=True, cwd=self.room, stdout=subprocess.DEVNULL, check=True)
+        ran = subprocess.run(["sftp", "-q", "-b", "-", "-D", server], input="\n".join([f"cd {self.live}", *commands]),
+                             text=True, cwd=self.room, stdout=subprocess.DEVNULL, check=False)
         time.sleep(1.2)
+        return ran.returncode == 0
 
     def start(self):
         """Starts a session that goes on."""

@@ -112,6 +112,28 @@ def names_of_any_bytes(place):
                       == ["a_root:_9_sessions_accepted__2J__.transcript"], place.kept("accepted"))
 
 
+# A user who may make names beside the state.
+OTHER = 65534
+
+
+def planted(place):
+    """What another user made in place of the state of a user is neither used nor followed."""
+    elsewhere = place.room / "elsewhere"
+    elsewhere.mkdir()
+    place.state.mkdir()
+    place.state.chmod(0o1777)
+    place.room.chmod(0o755)
+    name = place.state / USER
+    name.symlink_to(elsewhere)
+    os.chown(name, OTHER, OTHER, follow_symlinks=False)
+    place.check("a link of another user in place of the state: status 3", 3, str(name))
+    name.unlink()
+    name.mkdir(0o700)
+    os.chown(name, OTHER, OTHER)
+    place.check("a folder of another user in place of the state: status 3", 3, f"{name}: it belongs to another user")
+    place.steps.check("and nothing is written to either", not list(elsewhere.iterdir()) and not list(name.iterdir()))
+
+
 def full_state(place):
     """A state without room: the record stays, whatever the run came to, and a line names what could not be written."""
     place.state.mkdir()
@@ -137,4 +159,4 @@ def full_state(place):
 
 
 TRIALS = (empty_records, started_nowhere, removed_meanwhile, hours_that_repeat, dates_to_come,
-          names_of_any_bytes, full_state)
+          names_of_any_bytes, planted, full_state)
