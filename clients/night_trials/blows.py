@@ -1,5 +1,5 @@
-"""Runs of clients/nightly that are killed before each step on files that they do: the next run goes on as if nothing had
-happened. And recorders that are killed before each thing that they write: the night blames nobody for it."""
+"""Runs of clients/nightly that are killed before each step on files that they do: the next run goes on as if nothing
+had happened. And recorders that are killed before each thing that they write: the night blames nobody for it."""
 import shutil
 import signal
 import subprocess

@@ -52,7 +52,7 @@ records.mounted.open_at = removed
 
 
 def removed_meanwhile(place):
-    """A record that is gone when it is opened, as a recorder takes one back whose server did not start, stops nothing."""
+    """A record that is gone when it is opened, as a recorder takes back that of a server that did not start."""
     place.nightly()
     place.session("ls")
     place.session("mkdir d")

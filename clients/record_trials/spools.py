@@ -169,7 +169,8 @@ def hostile(steps, room):
     """What a user can send to the socket."""
     spool = Spool(room)
     opening = b"SFTPSP01"
-    for name, data in (("garbage", b"x" * 100), ("a path as address", opening + b"\x0b../../../x/"),
+    for name, data in (("garbage", b"x" * 100), ("a path as address", opening + b"\x0b../../../x/" +
+                                                      b"\0\0\0\x08SFTPTR01"),
                        ("a batch that is too long", opening + b"\0" + b"\xff" * 4 + bytes(1000)),
                        ("a batch that does not come whole", opening + b"\0" + b"\0\1\0\0" + bytes(100))):
         with socket.socket(socket.AF_UNIX) as link:
@@ -178,8 +179,8 @@ def hostile(steps, room):
             time.sleep(0.1)
     time.sleep(0.2)
     found = spool.records()
-    steps.check("what is sent makes files of this user's folder alone, and nothing is in them",
-                {it.parent.name for it in found} == {user()} and all(it.stat().st_size == 0 for it in found) and
+    steps.check("what is sent makes files of this user's folder alone, and none of what is no batch",
+                {it.parent.name for it in found} == {user()} and [it.read_bytes() for it in found] == [b"SFTPTR01"] and
                 len(list(room.folder.iterdir())) == 2, str(found))
     silent = socket.socket(socket.AF_UNIX)
     silent.connect(str(spool.socket))
