@@ -28,12 +28,15 @@ def note(record: Record, place: str) -> None:
 
 
 def write(name: str, text: str) -> None:
-    """Makes a file, and has it on the disk."""
-    with open(name, "w", encoding="utf-8") as file:
-        file.write(text)
-        file.flush()
-        os.fsync(file.fileno())
-    sync(".")
+    """Makes a file, and has it on the disk. An error names it as a whole."""
+    try:
+        with open(name, "w", encoding="utf-8") as file:
+            file.write(text)
+            file.flush()
+            os.fsync(file.fileno())
+        sync(".")
+    except OSError as error:
+        raise OSError(error.errno, error.strerror, os.path.abspath(name)) from None
 
 
 def note_verdict(lines: Sequence[str]) -> None:
@@ -64,9 +67,9 @@ def accept(copy: Copy, after: str, tree: str) -> None:
     os.remove(WHICH)
 
 
-def pass_over(copy: Copy, tree: str) -> None:
+def pass_over(copy: Copy, tree: str, kind: str = "accepted") -> None:
     """Keeps a record in which nothing was asked: the next starts from the same tree."""
-    place = copy.place_in("accepted")
+    place = copy.place_in(kind)
     note(copy.record, place)
     keep(copy, place, tree)
     tidy()

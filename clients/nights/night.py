@@ -11,7 +11,7 @@ import time
 from typing import List, Optional, Sequence
 
 from nights import accepting
-from nights.records import NEW, Copy, Failed, NotTaken, Numbers, Spool, end_of_silence
+from nights.records import NEW, Copy, Failed, Gone, NotTaken, Numbers, Spool, end_of_silence, is_empty
 from paging import packets
 from probing import program
 from recording import children, ending, ways
@@ -128,6 +128,9 @@ class Night:
     def audit(self, copy, name, note):
         """Audits a session, and makes its last tree the one of the next. What comes of it is said before the record is
         taken from the spool, so nothing hides it."""
+        if is_empty(copy.file):
+            self.leave_out(copy, name, note)
+            return
         silence = end_of_silence(copy.file)
         if silence:
             self.pass_over(copy, f"{name}: nothing was asked: the record ends {silence}{note}")
@@ -160,6 +163,13 @@ class Night:
         self.say(f"{name}: {first}{note}", 1)
         self.say_lines(more)
         self.put_aside(copy, "refused", [first, *more])
+
+    def leave_out(self, copy, name, note):
+        """Says that nothing was recorded, and goes on from the same tree: if the session changed something, the folder
+        has it."""
+        self.say(f"{name}: not judged: nothing was recorded{note}", 1)
+        with ending.put_off():
+            accepting.pass_over(copy, self.tree, "unjudged")
 
     def pass_over(self, copy, what):
         """Accepts a record in which nothing was asked."""
@@ -217,6 +227,8 @@ class Night:
                     self.has_running = True
                     return True
                 self.judge(record, said_beside(record, records[max(0, place - NEAR):place + NEAR]))
+            except Gone:
+                continue
             except NotTaken as why:
                 self.say(f"{record.shown()} is not taken for a record: {why}", 1)
             finally:
@@ -282,7 +294,7 @@ class Night:
             last = os.stat(self.compared).st_mtime
         except FileNotFoundError:
             last = 0
-        since = time.strftime(" since %Y-%m-%d %H:%M", time.localtime(last)) if last else ""
+        since = time.strftime(" since %Y-%m-%d %H:%M %z", time.localtime(last)) if last else ""
         is_late = not 0 <= time.time() - last < 3600 * self.given.longest
         why = "a session runs, so " if self.has_running else ""
         self.say(f"{self.counted()}; {why}the folder is not compared{since}", int(is_late))

@@ -35,6 +35,10 @@ class Failed(Exception):
     """Why nothing is judged."""
 
 
+class Gone(Exception):
+    """A file that is no longer there: its recorder took it back, or its user did."""
+
+
 class NotTaken(Exception):
     """Why a file is not taken for a record."""
 
@@ -73,19 +77,28 @@ class Record:
 
     def __init__(self, folder, name, state, date):
         self.folder, self.name, self.identity, self.owner = folder, name, identity_of(state), state.st_uid
-        self.end = min(state.st_mtime_ns / 1e9, time.time())
+        written, now = state.st_mtime_ns / 1e9, time.time()
         start = seconds_of(date) if date else None
-        self.start = self.end if start is None else min(start, self.end)
+        # by the clock that it had, which may have been fast
+        self.told = written if start is None else min(start, written)
+        self.end = min(written, now)
+        self.start = min(self.told, now)
         self.file = None
 
     def shown(self):
         return shown(self.name)
+
+    def order(self):
+        """What comes first began first."""
+        return self.told, self.end, self.name
 
     def open(self):
         """Opens it, if it still is the file that was found: its user may put another one there. Raises NotTaken if it
         is no longer as a recorder makes it."""
         try:
             self.file = mounted.open_at(self.name, self.folder, os.O_RDONLY | os.O_NONBLOCK)
+        except FileNotFoundError:
+            raise Gone() from None
         except OSError as error:
             raise Failed(f"{self.shown()}: {error.strerror}") from None
         found = os.fstat(self.file)
@@ -232,7 +245,7 @@ class Spool:
         """The first records in the order of their starts."""
         self.look()
         self.strange = Strange()
-        return heapq.nsmallest(MOST, self.found(), key=lambda it: (it.start, it.end, it.name))
+        return heapq.nsmallest(MOST, self.found(), key=Record.order)
 
 
 # The name of a copy until it is kept.
@@ -304,6 +317,13 @@ class Numbers:
         if number > 1:
             self.last[place] = number
         return found
+
+
+def is_empty(file):
+    """Whether a record ends within what each begins with, so that nothing was recorded: its disk was full, its recorder
+    was killed, or the power failed."""
+    head = os.pread(file, len(OPENING), 0)
+    return head != OPENING and OPENING.startswith(head)
 
 
 def end_of_silence(file):

@@ -122,10 +122,26 @@ def full_disks(steps, room):
         steps.check(f"--required {name}: no session, status 3", (ran.returncode, ran.stdout) == (3, b""), str(ran))
     ran = run(room, "/nowhere/t", STUB, data=asked)
     steps.check("no folder: the session goes on without a record", (ran.returncode, len(ran.stdout)) == (0, size))
+    no_room_at_all(steps, room, asked, size)
     if os.geteuid() == 0:
         small_disk(steps, room, asked, size)
     else:
         steps.skip("a small file system", "root alone can mount one")
+
+
+def no_room_at_all(steps, room, asked, size):
+    """Where not even the beginning of a transcript can be written, none is left: a night would refuse an empty one."""
+    nothing = {"data": asked, "preexec_fn": limited(resource.RLIMIT_FSIZE, 0)}
+    ran = run(room, "--times", "n.times", "n", STUB, **nothing)
+    steps.check("no room at all: the session goes on", (ran.returncode, len(ran.stdout)) == (0, size), str(ran))
+    ran = run(room, "--required", "n", STUB, **nothing)
+    steps.check("--required without any room: status 3, and nothing passes", (ran.returncode, ran.stdout) == (3, b""),
+                str(ran))
+    left = [it for it in os.listdir(room.folder) if it.startswith("n")]
+    steps.check("and neither leaves an empty transcript", not left, left)
+    (room.folder / "over").write_bytes(b"")
+    run(room, "--overwrite", "over", STUB, **nothing)
+    steps.check("a file that was there before stays", (room.folder / "over").exists())
 
 
 def few_descriptors(steps, room):

@@ -118,6 +118,26 @@ def hanging_daemon(steps, room):
         spool.end()
 
 
+def begun_and_left(steps, room):
+    """A recorder that is killed before it has sent the beginning of its record: no empty one is left."""
+    spool = Spool(room, "--records-per-user", "2")
+    for _ in range(3):
+        with socket.socket(socket.AF_UNIX) as link:
+            link.connect(str(spool.socket))
+            link.sendall(b"SFTPSP01\0")
+            begun = link.recv(8)
+    steps.check("a recorder that begins a record may do so again, where the last was left empty", begun == bytes(8))
+    end = time.monotonic() + SOON
+    while spool.records() and time.monotonic() < end:
+        time.sleep(0.05)
+    steps.check("a record that was begun and left is none", not spool.records(), spool.records())
+    process = spool.session()
+    open_session(process)
+    close(process.stdin)
+    ended(process, SOON)
+    steps.check("one with a session stays", spool.end() == 0 and len(spool.records()) == 1, spool.records())
+
+
 def limits(steps, room):
     for name, options in (("--per-session", ["--per-session", "100K"]), ("--per-user", ["--per-user", "100K"]),
                           ("--keep-free", ["--keep-free", "1000T"])):
@@ -149,7 +169,8 @@ def hostile(steps, room):
     """What a user can send to the socket."""
     spool = Spool(room)
     opening = b"SFTPSP01"
-    for name, data in (("garbage", b"x" * 100), ("a path as address", opening + b"\x0b../../../x/"),
+    for name, data in (("garbage", b"x" * 100), ("a path as address", opening + b"\x0b../../../x/" +
+                                                      b"\0\0\0\x08SFTPTR01"),
                        ("a batch that is too long", opening + b"\0" + b"\xff" * 4 + bytes(1000)),
                        ("a batch that does not come whole", opening + b"\0" + b"\0\1\0\0" + bytes(100))):
         with socket.socket(socket.AF_UNIX) as link:
@@ -158,8 +179,8 @@ def hostile(steps, room):
             time.sleep(0.1)
     time.sleep(0.2)
     found = spool.records()
-    steps.check("what is sent makes files of this user's folder alone, and nothing is in them",
-                {it.parent.name for it in found} == {user()} and all(it.stat().st_size == 0 for it in found) and
+    steps.check("what is sent makes files of this user's folder alone, and none of what is no batch",
+                {it.parent.name for it in found} == {user()} and [it.read_bytes() for it in found] == [b"SFTPTR01"] and
                 len(list(room.folder.iterdir())) == 2, str(found))
     silent = socket.socket(socket.AF_UNIX)
     silent.connect(str(spool.socket))
@@ -284,4 +305,5 @@ def other_user(steps, room):
         remove_user(OTHER)
 
 
-TRIALS = (kept, lost_spools, hanging_daemon, limits, hostile, unfit, activated, few_files, units, other_user)
+TRIALS = (kept, lost_spools, hanging_daemon, begun_and_left, limits, hostile, unfit, activated, few_files, units,
+          other_user)

@@ -121,6 +121,23 @@ class Shares:
         share.records += 1
         return place
 
+    def take_back(self, user, path):
+        """Removes a record of this user in which nothing was written."""
+        share = self.share_of(user)
+        try:
+            folder = share.open()
+        except OSError:
+            # somebody put the folder away, with all that is in it
+            return
+        try:
+            os.unlink(os.path.basename(path), dir_fd=folder)
+            share.records -= 1
+        except OSError:
+            # somebody took it out of the folder
+            pass
+        finally:
+            os.close(folder)
+
     def take(self, user, written, count):
         """Takes room for so many bytes more of a record."""
         share = self.by_user[user]
@@ -344,6 +361,8 @@ class Connection:
     def close(self):
         self.closing.close(self.link)
         if self.file is not None:
+            if not self.written:
+                self.shares.take_back(self.user, self.name)
             os.close(self.file)
 
 
@@ -467,7 +486,7 @@ class Daemon:
     def end(self, connection):
         del self.connections[connection.fileno()]
         self.counts[connection.user] -= 1
-        if connection.name:
+        if connection.written:
             self.notices.note(f"kept {connection.written} bytes in {connection.name}")
         connection.close()
 

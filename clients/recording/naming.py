@@ -209,8 +209,12 @@ class Opened:
         self.name = self.place.path
 
     def take_back(self):
-        """Removes what was made, since there is no session."""
+        """Closes it, and removes what was made, since there is no session."""
         os.close(self.file)
+        self.remove()
+
+    def remove(self):
+        """Removes what was made."""
         if self.is_made:
             self.place.remove()
 

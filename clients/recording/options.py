@@ -171,6 +171,11 @@ class Records:
         for it in self.opened:
             it.take_back()
 
+    def remove(self):
+        """Removes what was made: a transcript that has not even its beginning would be a malformed one."""
+        for it in self.opened:
+            it.remove()
+
 
 def open_notices(options):
     about = f"{naming.user_name(os.getuid())} {naming.address(os.environ)} {options.transcript or options.spool}"
@@ -266,6 +271,8 @@ def record_any(options):
         session.audit = open_audit(options, notices)
     if records.record:
         session.begin_record(records.record, records.times, OPENING)
+        if not session.record:
+            records.remove()
     status = play(session)
     if session.audit:
         session.audit.finish()

@@ -193,12 +193,23 @@ class Way:
 
 def from_root(path: bytes) -> bytes:
     """The path from the root on. Only one that begins where the process is asks where that is: it may be gone."""
-    return path if path.startswith(b"/") else os.path.join(os.fsencode(os.getcwd()), path)
+    return path if path.startswith(b"/") else os.path.join(here(os.fsdecode(path)), path)
+
+
+def here(given: str) -> bytes:
+    """The folder where the process is, from which this path leads on."""
+    try:
+        return os.getcwdb()
+    except FileNotFoundError:
+        raise OSError(errno.ENOENT, "the folder in which this was started is gone", given) from None
 
 
 def way_of(path: bytes, given: str) -> Way:
     """The beginning of the way that a path has."""
-    return Way(b"/" if path.startswith(b"/") else b".", given)
+    if path.startswith(b"/"):
+        return Way(b"/", given)
+    here(given)
+    return Way(b".", given)
 
 
 class Location:

@@ -10,7 +10,12 @@ RUNNING = os.path.join(TOP, "clients/running")
 # A client's program, its packages, and words of the shell that succeed if these are installed.
 CLIENTS = {"curl": ("by_curl", "curl", "curl --version | grep -qw sftp"),
            "psftp": ("by_psftp", "putty-tools", "command -v psftp && command -v puttygen"),
-           "net-sftp": ("by_ruby", "ruby-net-sftp", "ruby -e 'require \"net/sftp\"'")}
+           "net-sftp": ("by_ruby", "ruby-net-sftp", "ruby -e 'require \"net/sftp\"'"),
+           "fsspec": ("by_fsspec", "python3-fsspec python3-paramiko", "/usr/bin/python3 -c 'import fsspec, paramiko'")}
+# Options that a client needs of the server: without times fsspec believes that no file is there.
+OPTIONS = {"fsspec": ["--times"]}
+# Clients that fail if replies come in another order than their requests (docs/CLIENTS.md).
+IN_ORDER = {"fsspec"}
 
 
 def words(client):
