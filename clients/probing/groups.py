@@ -173,8 +173,17 @@ def others(one, other):
     lacking = [name for name in ("size", "owner") if f"no {name}" in other and f"no {name}" not in one]
     gone = {field for name in lacking for field in LACKED[name]}
     found = [name for field, name in FIELDS if field not in gone and number(one, field) != number(other, field)]
-    said = ["with another " + ", ".join(found or ["value"])] if found or not lacking else []
+    said = ["with " + ", ".join(map(another, found or ["value"]))] if found or not lacking else []
     return " and ".join(said + [f"without {name}" for name in lacking])
+
+
+def another(name):
+    return f"{'other' if name.endswith('s') else 'another'} {name}"
+
+
+def lacks_owner(difference):
+    """Whether what differs are attributes that have no owner."""
+    return "without owner" in key_of(difference)[3]
 
 
 def of_data(expected, found):
@@ -273,7 +282,7 @@ def of_what(group):
         return BYTES
     if group.request in ("READLINK", "REALPATH"):
         return PATH
-    named = re.search(r"with another ([a-z, ]+)$", group.found)
+    named = re.search(r"with (?:an)?other ([a-z, ]+)$", group.found)
     if named:
         return BYTES if "size" in named[1] else named[1]
     if "code 2 " in group.expected + group.found or group.request == "READDIR":
