@@ -62,7 +62,7 @@ class Shrinker:
             # the last session waits for its reply as long as it was told to
             self.until = limits.Until(whole, whole.left() - 1.5 * self.worker.timeout)
         try:
-            if self.again(self.group.steps, tree):
+            if self.again(self.start(tree), tree):
                 self.shorten()
             self.group.whole = None if self.best else groups.GONE
         except Stopped:
@@ -76,6 +76,16 @@ class Shrinker:
         except Stopped:
             self.group.whole = groups.NO_TIME
         self.group.shortest = self.best
+
+    def start(self, tree):
+        """The steps to begin with: a guess that shows it with one request after the other, which is soon tried even if
+        the server is slow; else all."""
+        wanted, self.in_flight = self.in_flight, 1
+        for steps in of_steps(self.group.steps, self.group.first.number):
+            if self.show(steps, tree):
+                break
+        self.in_flight = wanted
+        return self.best.steps if self.best else self.group.steps
 
     def shorten(self):
         shown = self.guessed(self.best) or self.without_tail(self.best)

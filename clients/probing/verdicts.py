@@ -163,7 +163,8 @@ class Difference:
         lines = self.verdict.lines
         if "found" not in lines and "reply" in lines:
             return groups.of_reply(lines["reply"])
-        return lines.get("found") or self.verdict.kind + (f", {lines['fault']}" if "fault" in lines else "")
+        place = f", {lines['fault']}" if "fault" in lines else ""
+        return lines.get("found") or groups.told(self.verdict.kind) + place
 
 
 class Judged:
