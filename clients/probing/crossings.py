@@ -18,7 +18,7 @@ def leading_nowhere(p):
     yield p.ask("MKDIR", link, {}, cause="Exists")
     yield p.ask("SYMLINK", b"elsewhere", link, cause="Exists")
     yield p.ask("READLINK", link)
-    if "excl-dangling" not in p.skip:
+    if p.random.random() < 0.3 and "excl-dangling" not in p.skip:
         yield p.ask("OPEN", link, WRITE | CREAT | EXCL, {}, cause="Exists")
     yield p.ask("LSTAT", absent, cause="NoEntry")
     step = p.ask("OPEN", link, WRITE | CREAT, {})
