@@ -14,7 +14,7 @@ from probing import planted
 
 OK_STATUS, END, FAILED = (code.to_bytes(4, "big") for code in (sftp3.OK, sftp3.EOF, sftp3.FAILURE))
 
-# Ids of requests that a fault makes itself, whose replies the client does not see. No plan has as many requests.
+# Where the ids of requests begin that a fault makes itself, whose replies the client does not see. No plan has these.
 OWN_IDS = 0xF0000000
 
 
@@ -25,7 +25,7 @@ class Fault(planted.Bug):
         super().__init__()
         # requests by their ids, and those that opened what is open, by its handle; how far a path's file was written
         self.asked, self.opened, self.lengths = {}, {}, {}
-        self.own = OWN_IDS
+        self.own, self.unseen = OWN_IDS, set()
 
     def ask(self, asked):
         """The requests that the server gets in place of this one."""
@@ -58,7 +58,7 @@ class Fault(planted.Bug):
         if packet[4] == sftp3.VERSION:
             return [self.opening(packet)]
         reply = sftp3.Reply(packet)
-        if reply.number >= OWN_IDS:
+        if reply.number in self.unseen:
             return []
         asked = self.asked[reply.number]
         found = self.answer(asked, packet)
@@ -69,6 +69,7 @@ class Fault(planted.Bug):
     def another(self, name, *fields):
         """A request of the fault's own."""
         self.own += 1
+        self.unseen.add(self.own)
         return sftp3.Request(self.own, name, list(fields))
 
     def opener_number(self, asked):

@@ -70,7 +70,7 @@ class Group:
         if self.shortest:
             count = len(self.shortest.steps)
             said = f"shrunk to {count} request{'s' if count != 1 else ''}" + (", time was over" if self.partly else "")
-            return said if self.steady() else f"{said}; intermittent, {often}"
+            return said if self.steady() or not self.tries else f"{said}; intermittent, {often}"
         if self.whole == GONE:
             return f"not shrunk: intermittent, {often} with the same plan"
         return {NO_TIME: "not shrunk: no time was left", LATE: "not shrunk: the reply came late"}[self.whole]
@@ -120,7 +120,7 @@ def key_of(difference):
         found = "no reply in time" if difference.session.silent() else difference.found
         return difference.name, (), difference.expected, found
     if verdict.kind not in JUDGED:
-        return difference.name, (), difference.expected, verdict.kind
+        return difference.name, (), difference.expected, told(verdict.kind)
     causes = [words.split()[0] for words in verdict.lines.get("causes", "none").split(", ")]
     expected, found = verdict.lines.get("expected", ""), verdict.lines.get("found")
     found = found or of_reply(verdict.lines.get("reply", ""))
@@ -173,8 +173,17 @@ def others(one, other):
     lacking = [name for name in ("size", "owner") if f"no {name}" in other and f"no {name}" not in one]
     gone = {field for name in lacking for field in LACKED[name]}
     found = [name for field, name in FIELDS if field not in gone and number(one, field) != number(other, field)]
-    said = ["with another " + ", ".join(found or ["value"])] if found or not lacking else []
+    said = ["with " + ", ".join(map(another, found or ["value"]))] if found or not lacking else []
     return " and ".join(said + [f"without {name}" for name in lacking])
+
+
+def another(name):
+    return f"{'other' if name.endswith('s') else 'another'} {name}"
+
+
+def lacks_owner(difference):
+    """Whether what differs are attributes that have no owner."""
+    return "without owner" in key_of(difference)[3]
 
 
 def of_data(expected, found):
@@ -196,6 +205,22 @@ def of_names(found):
         has, wanted = found.split(" has ", 1)[1].split(", not ", 1)
         return f"a name of {kind(wanted)} {others(wanted, has)}"
     return plain(found)
+
+
+# What the faults of a packet mean (docs/PROTOCOL.md, Faults).
+FAULTS = {
+    "Wire Length": "the packet is longer than 262,144 bytes, or too short for any",
+    "Wire Type": "the packet has a type that no server sends",
+    "Wire Short": "a field goes past the end of the packet",
+    "Wire HandleTooLong": "a handle has more than 256 bytes",
+    "Wire Flags": "attributes have a flag that version 3 does not have",
+    "Wire Trailing": "bytes follow the last field of the packet",
+}
+
+
+def told(verdict_kind):
+    """The kind of a verdict, in words where it is the fault of a packet."""
+    return f"{verdict_kind}: {FAULTS[verdict_kind]}" if verdict_kind in FAULTS else verdict_kind
 
 
 # Requests that change something when they are done. OPEN changes something with some of its flags.
@@ -273,7 +298,7 @@ def of_what(group):
         return BYTES
     if group.request in ("READLINK", "REALPATH"):
         return PATH
-    named = re.search(r"with another ([a-z, ]+)$", group.found)
+    named = re.search(r"with (?:an)?other ([a-z, ]+)$", group.found)
     if named:
         return BYTES if "size" in named[1] else named[1]
     if "code 2 " in group.expected + group.found or group.request == "READDIR":

@@ -174,6 +174,8 @@ class Played:
     # nobody knows what it changed, and those that were not asked.
     requests: int
     unjudged: int
+    # How many of those had replies that show no owner.
+    ownerless: int = 0
     # The groups of its differences, each once, in the order in which they came.
     groups: List = field(default_factory=list)
 
@@ -206,6 +208,10 @@ class Tally:
     @property
     def unjudged(self):
         return sum(one.unjudged for one in self.played)
+
+    @property
+    def ownerless(self):
+        return sum(one.ownerless for one in self.played)
 
     @property
     def differing(self):

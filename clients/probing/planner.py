@@ -13,7 +13,7 @@ import itertools
 import random
 
 import sftp3
-from probing import features, meetings, pairs, refusals, renewals, scenes, transfers
+from probing import crossings, features, meetings, pairs, refusals, renewals, scenes, transfers
 from probing.transfers import listing
 from probing.model import DIRECTORY, FILE, LINK, Model, apply
 from probing.plans import Handle, Step
@@ -131,7 +131,12 @@ PERIODS = [
 def large_scenes(seed, random):
     """The large scenes of a seed, with their features."""
     found = [("transfers", TRANSFERS[seed % len(TRANSFERS)]), ("transfers", random.choice(TRANSFERS))]
-    return found + [(feature, scene) for feature, scene, period, first in PERIODS if seed % period == first % period]
+    return found + of_seed(seed, PERIODS)
+
+
+def of_seed(seed, periods):
+    """The scenes of these periods that come with a seed, with their features."""
+    return [(feature, scene) for feature, scene, period, first in periods if seed % period == first % period]
 
 
 # Names of what is made, few, so that they meet.
@@ -275,20 +280,28 @@ class Planner:
         return self.random.choice([0, size, size, min(self.offset(), size)])
 
 
-# Where ids begin, by the last digit of the seed, with others than 1: where they are no numbers of 31 bits, and at 0.
-FIRST_IDS = {5: 2 ** 31, 3: 0, 8: 0}
+# Where ids begin, by the last digit of the seed, with others than 1: where they are no numbers of 31 bits, at 0, and
+# so that they go on with 0 behind the last of 32 bits.
+FIRST_IDS = {5: 2 ** 31, 3: 0, 8: 0, 6: 2 ** 32 - 50}
+
+
+def ids_of(seed):
+    """The ids of a session, one after the other."""
+    first = FIRST_IDS.get(seed % 10, 1)
+    return itertools.chain(range(first, 2 ** 32), range(first))
 
 
 def plan(seed, tree, count, skip=()):
     """The steps of a session: so many of small scenes, besides those of large ones and of the end."""
-    numbers = itertools.count(FIRST_IDS.get(seed % 10, 1))
-    small, large = Planner(seed, tree, skip, numbers), Planner(f"large {seed}", tree, skip, numbers)
+    numbers = ids_of(seed)
+    small, large, further = (Planner(word, tree, skip, numbers) for word in (seed, f"large {seed}", f"further {seed}"))
     between, steps = large.large(large_scenes(seed, large.random)), []
     for step in small.small(count):
         steps.append(step)
         steps += itertools.islice(between, large.random.randint(0, 8))
     steps += between
-    for planner in (large, small):
+    steps += further.large(of_seed(seed, crossings.PERIODS))
+    for planner in (large, small, further):
         steps += planner.large([("read-back", read_back)])
     return steps
 

@@ -82,6 +82,22 @@ class wrong_byte(Bug):
         return packet[:-1] + bytes([packet[-1] ^ 1])
 
 
+class no_owners(wrong_byte):
+    """Attributes have no owner; and the last byte of DATA of five bytes or more is another."""
+
+    def changed(self, name, packet):
+        if packet[4] == sftp3.ATTRS:
+            given = self.shown(sftp3.Fields(packet[9:]).attributes())
+            return sftp3.packet(sftp3.ATTRS, packet[5:9] + sftp3.attributes(given))
+        if packet[4] == sftp3.NAME:
+            items = [(name, long, self.shown(given)) for name, long, given in sftp3.Fields(packet[9:]).names()]
+            return sftp3.packet(sftp3.NAME, packet[5:9] + sftp3.names(items))
+        return super().changed(name, packet)
+
+    def shown(self, given):
+        return {name: value for name, value in given.items() if name != "owner"}
+
+
 class lost_write(Bug):
     """A WRITE behind the first byte is not done, but said to be."""
 

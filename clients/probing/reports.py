@@ -87,6 +87,18 @@ def print_group(number, group):
         program.say("      " + line)
 
 
+# What is said once, as soon as a reply shows it.
+NO_OWNERS = ("probe: the server shows attributes without an owner (uid and gid), which no profile accepts: the first "
+             "such reply of a session is a difference, and the others are not judged, with all that they show: sizes, "
+             "permissions, and the names of listings")
+
+
+def unjudged(tally):
+    """How many requests were not judged, and why, as far as one reason has a name."""
+    why = f", {tally.ownerless} of them since their replies show no owner" if tally.ownerless else ""
+    return f"; {tally.unjudged} of {tally.requests} requests were not judged{why}" if tally.unjudged else ""
+
+
 def summary(tally, found):
     """The last line."""
     sessions = f"{tally.sessions} session{'s' if tally.sessions != 1 else ''}"
@@ -95,7 +107,7 @@ def summary(tally, found):
         return f"no difference in {sessions}, {tally.requests} requests; {stopped}"
     if not found:
         return f"accepted: {sessions}, {tally.requests} requests"
-    left = f"; {tally.unjudged} of {tally.requests} requests were not judged" if tally.unjudged else ""
+    left = unjudged(tally)
     leaders = [group for group in found if not group.leader]
     more = f", {len(found) - len(leaders)} of which may follow from others," if len(leaders) < len(found) else ""
     return (f"{len(found)} kind{'s' if len(found) != 1 else ''} of difference{more} in {tally.differing} of {sessions}"

@@ -91,6 +91,7 @@ class Plan:
         if number == 0:
             played.requests = session.asked() + session.unasked
         played.unjudged = judged.unjudged + session.unasked
+        played.ownerless = judged.ownerless
 
     def ends_alike(self, session):
         """Whether the server ended behind the same number of requests often enough."""
@@ -217,6 +218,8 @@ class Run:
                 group.put_behind(others)
         outcome.played.groups = list(dict.fromkeys(group for _, group, _ in found))
         self.tally.version = self.tally.version or outcome.version
+        if outcome.played.ownerless and not self.tally.ownerless:
+            program.say(reports.NO_OWNERS, sys.stderr)
         self.tally.add(outcome.played)
 
     def shrink(self):

@@ -62,7 +62,7 @@ class Shrinker:
             # the last session waits for its reply as long as it was told to
             self.until = limits.Until(whole, whole.left() - 1.5 * self.worker.timeout)
         try:
-            if self.again(self.group.steps, tree):
+            if self.again(self.start(tree), tree):
                 self.shorten()
             self.group.whole = None if self.best else groups.GONE
         except Stopped:
@@ -76,6 +76,16 @@ class Shrinker:
         except Stopped:
             self.group.whole = groups.NO_TIME
         self.group.shortest = self.best
+
+    def start(self, tree):
+        """The steps to begin with: a guess that shows it with one request after the other, which is soon tried even if
+        the server is slow; else all."""
+        wanted, self.in_flight = self.in_flight, 1
+        for steps in of_steps(self.group.steps, self.group.first.number):
+            if self.show(steps, tree):
+                break
+        self.in_flight = wanted
+        return self.best.steps if self.best else self.group.steps
 
     def shorten(self):
         shown = self.guessed(self.best) or self.without_tail(self.best)
@@ -218,8 +228,15 @@ def opener(step):
 
 def of_handles(steps, last):
     """The step, and those that give its handle."""
-    kept, wanted = [last], {opener(last)}
-    for step in reversed(steps[:steps.index(last)]):
+    return of_last(steps, last, 0)
+
+
+def of_last(steps, last, count):
+    """The step, so many that come just before it, and those that give their handles."""
+    start = max(steps.index(last) - count, 0)
+    kept = steps[start:steps.index(last) + 1]
+    wanted = {opener(step) for step in kept}
+    for step in reversed(steps[:start]):
         if step.number in wanted:
             kept.insert(0, step)
             wanted.add(opener(step))
@@ -238,12 +255,17 @@ def of_names(steps, last):
     return [step for step in before if step.number in wanted or opener(step) in wanted] + [last]
 
 
+# How many requests just before that of a difference are guessed to matter, as where a server misread the one before.
+JUST_BEFORE = (8, 4, 2, 1, 0)
+
+
 def of_steps(steps, number):
     """Guesses at the steps that the difference of this step needs, the shortest first."""
     last = next((step for step in steps if step.number == number), None)
     if last is None:
         return []
-    return sorted([of_handles(steps, last), of_names(steps, last)], key=len)
+    guesses = [of_names(steps, last), *(of_last(steps, last, count) for count in JUST_BEFORE)]
+    return sorted({len(guess): guess for guess in guesses}.values(), key=len)
 
 
 def of_entries(steps, entries):

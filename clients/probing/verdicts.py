@@ -19,6 +19,9 @@ PROFILE_OPTIONS = ["--profile", "--umask", "--new-owner", "--allow", "--except",
 # The most differences of a session that are told apart: each takes an audit more, and a session may have thousands.
 MOST_DIFFERENCES = 12
 
+# The requests whose replies show attributes.
+SHOWING = ("STAT", "LSTAT", "FSTAT", "READDIR")
+
 # Seconds from a look at what may stop an audit to the next.
 GLANCE = 0.2
 
@@ -160,15 +163,16 @@ class Difference:
         lines = self.verdict.lines
         if "found" not in lines and "reply" in lines:
             return groups.of_reply(lines["reply"])
-        return lines.get("found") or self.verdict.kind + (f", {lines['fault']}" if "fault" in lines else "")
+        place = f", {lines['fault']}" if "fault" in lines else ""
+        return lines.get("found") or groups.told(self.verdict.kind) + place
 
 
 class Judged:
-    """The differences of a session, how many of its requests were not judged, and the number of the request behind
-    which none was, since nobody knows what it changed."""
+    """The differences of a session, how many of its requests were not judged, how many of these since their replies
+    show no owner, and the number of the request behind which none was, since nobody knows what it changed."""
 
     def __init__(self):
-        self.differences, self.unjudged, self.last = [], 0, None
+        self.differences, self.unjudged, self.ownerless, self.last = [], 0, 0, None
 
     def place(self):
         """The place of the last reply that differs, or of its request."""
@@ -198,6 +202,8 @@ def judge(auditor, tree_file, session, seed=0, stop=None):
             request if request is None else places[request],
             reply if reply is None or reply >= len(places) else places[reply]))
         gone = without(records, verdict, request, reply, judged)
+        if gone and groups.lacks_owner(judged.differences[-1]):
+            gone = ownerless(records, gone, judged)
         places = [] if gone is None else [place for at, place in enumerate(places) if at not in gone]
     judged.unjudged += sum(session.records[place][0] == b"C" for place in places if place > judged.place())
     if session.crashed():
@@ -244,6 +250,46 @@ def without(records, verdict, request, reply, judged):
         gone |= through(records, handle_of(packet), reply)
     judged.unjudged += sum(records[at][0] == b"C" for at in gone) - 1
     return gone
+
+
+def ownerless(records, gone, judged):
+    """The places to go on without, with those of all whose replies show no owner: no audit accepts one of them."""
+    found = set(gone)
+    for asked, reply in showing_no_owner(records):
+        if asked not in found:
+            found |= {asked, reply}
+            found |= of_listing(records, asked)
+    more = sum(records[at][0] == b"C" for at in found - gone)
+    judged.ownerless += more + 1
+    judged.unjudged += more
+    return found
+
+
+def of_listing(records, place):
+    """If this request is a READDIR: those of the same listing behind it, and their replies."""
+    asked = request_at(records, place)
+    return through(records, asked.fields[0], place, "READDIR") if asked.name == "READDIR" else set()
+
+
+def showing_no_owner(records):
+    """The places of the requests whose replies show attributes without an owner, each with that of the reply."""
+    asked = {}
+    for place, (side, packet) in enumerate(records):
+        if side == b"C":
+            asked[packet[5:9]] = place
+        elif place > 1 and packet[4] in (sftp3.ATTRS, sftp3.NAME) and packet[5:9] in asked:
+            request = asked[packet[5:9]]
+            if request_at(records, request).name in SHOWING and lacks_owner(packet):
+                yield request, place
+
+
+def lacks_owner(packet):
+    """Whether attributes in a reply have no owner."""
+    fields = sftp3.Fields(packet[9:])
+    with suppress(sftp3.Malformed):
+        given = [fields.attributes()] if packet[4] == sftp3.ATTRS else [it for _, _, it in fields.names()]
+        return any("owner" not in one for one in given)
+    return False
 
 
 def goes_on(records, verdict, request, reply):
