@@ -106,8 +106,9 @@ NUMBER = 0x7FFFFFFF
 # What a packet has besides the bytes of a WRITE or of DATA, at most.
 AROUND = 1024
 
-# What no offset reaches.
+# What no offset reaches, and no id.
 OFFSETS = 1 << 64
+IDS = 1 << 32
 
 
 class Room:
@@ -122,7 +123,7 @@ class Room:
     def cut(self, steps):
         """These steps, with shorter READs and WRITEs in place of those that are too long, and without OPENs, and what
         is done through their handles, that are too many."""
-        number, opened, refused, found = max((step.number for step in steps), default=0), set(), set(), []
+        number, opened, refused, found = last_number(steps), set(), set(), []
         for step in steps:
             opener = getattr(step.handle(), "step", None)
             if step.name in ("OPEN", "OPENDIR") and self.handles is not None and len(opened) >= self.handles:
@@ -150,10 +151,16 @@ class Room:
         return [step]
 
 
+def last_number(steps):
+    """The last of the steps' numbers, counted from that of the first one on, as 0 may come behind the last id."""
+    first = steps[0].number if steps else 0
+    return first + max(((step.number - first) % IDS for step in steps), default=0)
+
+
 def many(step, number, of_parts):
     """Steps with these fields in place of a step: a handle, an offset, and what is read or written there. Parts behind
     the last offset that there is are left out."""
-    return [Step(step.number if part == 0 else number + part, step.name, fields)
+    return [Step(step.number if part == 0 else (number + part) % IDS, step.name, fields)
             for part, fields in enumerate(of_parts) if fields[1] < OFFSETS]
 
 
