@@ -174,10 +174,10 @@ class Played:
     # nobody knows what it changed, and those that were not asked.
     requests: int
     unjudged: int
-    # How many of those had replies that show no owner.
-    ownerless: int = 0
     # The groups of its differences, each once, in the order in which they came.
     groups: List = field(default_factory=list)
+    # How many of those without a verdict had replies that show no owner.
+    ownerless: int = 0
 
     def vain(self):
         """Whether nothing at all was judged: then it does not count as accepted."""
