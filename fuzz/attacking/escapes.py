@@ -15,7 +15,7 @@ from attacking.sessions import Client
 from attacking.ground import SECONDS, attack
 from attacking.recorders import daemon
 from attacking.saving import TOP
-from programs import program
+from probing.program import program
 
 SERVER = "/usr/lib/openssh/sftp-server"
 CONFIG = """Port {port}

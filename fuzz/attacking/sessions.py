@@ -4,7 +4,7 @@ import os
 import subprocess
 import sys
 
-from programs import program
+from probing.program import program
 from sftp3 import (CLIENT, CREAT, DATA, Fields, HANDLE, NAME, Packet, READ, Reply, Request, SERVER, WRITE, encode,
                    id_of, init, put_records, status, uint32, uint64, version)
 from sftp3.trees import Entry, FILE, Tree, USUAL, put
