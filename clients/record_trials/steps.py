@@ -1,9 +1,8 @@
-"""Starts recorders, and waits for processes to end."""
+"""Starts recorders, and speaks to them."""
 import os
 import subprocess
 import sys
 import tempfile
-import time
 from pathlib import Path
 
 TOP = Path(__file__).resolve().parents[2]
@@ -55,36 +54,11 @@ class Room:
         return (self.folder / name).read_bytes()
 
 
-def make_user(name):
-    """Makes a user for a trial. Another program may hold the lock of the list of users for a moment."""
-    words = ["useradd", "--create-home", "--password", "*", "--shell", "/bin/sh", name]
-    for _ in range(20):
-        if subprocess.run(words, stderr=subprocess.DEVNULL).returncode == 0:
-            return
-        time.sleep(0.5)
-    subprocess.run(words, check=True)
-
-
-def remove_user(name):
-    for _ in range(20):
-        if subprocess.run(["userdel", "--remove", name], stderr=subprocess.DEVNULL).returncode == 0:
-            return
-        time.sleep(0.5)
-
-
 def close(pipe):
     try:
         pipe.close()
     except OSError:
         pass
-
-
-def ended(process, seconds):
-    """The status of the process, or None if it has not ended after so many seconds."""
-    try:
-        return process.wait(seconds)
-    except subprocess.TimeoutExpired:
-        return None
 
 
 def stubs(folder):
@@ -98,16 +72,6 @@ def stubs(folder):
         except OSError:
             pass
     return found
-
-
-def gone(folder, seconds):
-    """Whether no stub is left in this folder after at most so many seconds."""
-    end = time.monotonic() + seconds
-    while stubs(folder):
-        if time.monotonic() > end:
-            return False
-        time.sleep(0.02)
-    return True
 
 
 def receive(process, count):

@@ -6,7 +6,8 @@ import subprocess
 import time
 
 import sftp3
-from serve_trials.steps import IS_PLAIN, KINDS, SIGNALS, SOON, children_of, wait_until
+from serve_trials.steps import IS_PLAIN, KINDS, SIGNALS
+from trials.processes import SOON, children_of, wait_until
 
 BLOCK = bytes(range(256)) * 128
 # 100 MB in 7 files, each below the 16 MiB that a file may have.

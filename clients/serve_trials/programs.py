@@ -1,26 +1,19 @@
 """Real clients, as far as they are installed: sftp, lftp and paramiko over the script, and all of them through sshd."""
 import os
-import shutil
 import signal
 import socket
 import subprocess
-import sys
 import time
 from pathlib import Path
 
 from serve_trials import steps as trials
-from serve_trials.steps import children_of, wait_until
+from trials.clients import ServerOfLftp, has, paramiko_words, python_with_paramiko
+from trials.processes import SOON, below_of, children_of, wait_until
 
 SSHD = "/usr/sbin/sshd"
 LARGE = bytes(range(256)) * 40_000
 SSH = ["-o", "IdentitiesOnly=yes", "-o", "StrictHostKeyChecking=no", "-o", "UserKnownHostsFile=/dev/null",
        "-o", "LogLevel=ERROR"]
-
-
-def has(steps, client):
-    if not shutil.which(client):
-        steps.skip(client, "it is not installed")
-    return bool(shutil.which(client))
 
 
 def command(room, *words):
@@ -30,7 +23,7 @@ def command(room, *words):
 
 def run(words, **options):
     return subprocess.run(list(map(str, words)), stdout=subprocess.PIPE, stderr=subprocess.STDOUT, text=True,
-                          timeout=trials.SOON, **options)
+                          timeout=SOON, **options)
 
 
 def begun(words, commands, room, **options):
@@ -67,29 +60,16 @@ def with_lftp(steps, room):
     if not has(steps, "lftp"):
         return
     (room.folder / "large").write_bytes(LARGE)
-    # lftp calls it as it calls ssh: with options, the host and the name of the subsystem behind
-    caller = room.folder / "connect"
-    caller.write_text(f"#!/bin/sh\nexec {command(room, '--log', f'{room.folder}/log', '--verbose')}\n")
-    caller.chmod(0o755)
+    server = ServerOfLftp(room.folder, command(room, "--log", f"{room.folder}/log", "--verbose"))
     for number in range(5):
-        script = (f"set sftp:connect-program {caller}; set net:max-retries 1; set cmd:fail-exit yes; "
-                  f"open -u u,x sftp://server; mkdir d{number}; put {room.folder}/large -o d{number}/large; ls; bye")
-        ran = run(["lftp", "-c", script], cwd=room.folder)
+        commands = [*server.settings(), f"mkdir d{number}", f"put {room.folder}/large -o d{number}/large", "ls", "bye"]
+        ran = run(["lftp", "-c", "; ".join(commands)], cwd=room.folder)
         names = [f"/d{it}/large" for it in range(number + 1)]
         steps.check(f"lftp, session {number + 1}: its work is saved at its bye", ran.returncode == 0 and
                     is_saved(room, *names), f"{ran.returncode} {ran.stdout} {room.names()} {room.left()}")
 
 
 PARAMIKO = """
-import socket, subprocess, sys
-import paramiko
-class Named(socket.socket):
-    def get_name(self):
-        return "sftpv3"
-ours, theirs = socket.socketpair()
-with theirs:
-    server = subprocess.Popen(sys.argv[2:], stdin=theirs, stdout=theirs)
-client = paramiko.SFTPClient(Named(fileno=ours.detach()))
 client.mkdir("/p")
 client.open("/p/f", "w").close()
 server.terminate()
@@ -98,12 +78,10 @@ print(server.wait(10))
 
 
 def with_paramiko(steps, room):
-    python = next((it for it in ("/usr/bin/python3", sys.executable)
-                   if run([it, "-c", "import paramiko"]).returncode == 0), None)
-    if python is None:
+    if not python_with_paramiko():
         steps.skip("paramiko", "it is not installed")
         return
-    ran = run([python, "-c", PARAMIKO, "-", *command(room).split()])
+    ran = run(paramiko_words(PARAMIKO, command(room).split()))
     steps.check("paramiko, and a SIGTERM while it is open: the tree is saved", ran.stdout.endswith("0\n") and
                 is_saved(room, "/p", "/p/f"), ran.stdout)
 
@@ -197,11 +175,6 @@ def killed_sshd(steps, room, sshd):
     sftp.communicate()
     steps.check("SIGTERM to sshd's process and to all below it: the tree is saved", is_saved(room, "/both"),
                 f"{room.names()} {room.left()}")
-
-
-def below_of(number):
-    found = children_of(number)
-    return found + [it for child in found for it in below_of(child)]
 
 
 def through_sshfs(steps, room, sshd):

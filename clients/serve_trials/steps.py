@@ -8,7 +8,6 @@ import subprocess
 import sys
 import tarfile
 import tempfile
-import time
 from pathlib import Path
 
 TOP = Path(__file__).resolve().parents[2]
@@ -16,14 +15,12 @@ sys.path.insert(0, str(TOP / "clients"))
 import sftp3
 from probing.program import program
 from recording import temporary
+from trials.processes import SOON, children_of, ended, kill
 
 PROGRAM = program()
 # what is tried, as words: `SERVE="FILE serve"` tries the program without the script
 SERVE = os.environ["SERVE"].split() if "SERVE" in os.environ else [str(TOP / "clients/serve"), "--program", PROGRAM]
 IS_PLAIN = "SERVE" in os.environ
-# How long, in seconds, is waited for what ends at once, however busy the machine is; what does not end, does not end by
-# then either.
-SOON = 100
 VERSION_BYTES = 124
 WRITTEN = sftp3.WRITE | sftp3.CREAT
 KINDS = ("sockets", "pipes")
@@ -119,11 +116,8 @@ class Server:
             self.input = None
 
     def status(self, seconds=SOON):
-        """Its status, or None if it has not ended after so many seconds."""
-        try:
-            return self.process.wait(seconds)
-        except subprocess.TimeoutExpired:
-            return None
+        """Its status, or None if it has not ended within so many seconds."""
+        return ended(self.process, seconds)
 
     def errors(self):
         """What it printed to standard error. One that should have ended by now is killed."""
@@ -157,7 +151,7 @@ class Room:
             it.close()
             it.process.stderr.close()
             for number in children:
-                end(number)
+                kill(number)
         self.servers = []
 
     def serve_words(self, *words, tree="t"):
@@ -193,27 +187,3 @@ class Room:
     def left(self):
         """The names in the folder."""
         return sorted(it.name for it in self.folder.iterdir())
-
-
-def children_of(number):
-    try:
-        return [int(it) for it in Path(f"/proc/{number}/task/{number}/children").read_text().split()]
-    except OSError:
-        return []
-
-
-def end(number):
-    try:
-        os.kill(number, signal.SIGKILL)
-    except ProcessLookupError:
-        pass
-
-
-def wait_until(holds, seconds=SOON):
-    """Whether it holds within so many seconds."""
-    until = time.monotonic() + seconds
-    while not holds():
-        if time.monotonic() > until:
-            return False
-        time.sleep(0.01)
-    return True

@@ -5,9 +5,9 @@ import subprocess
 
 import sftp3
 from serve_trials import steps as trials
-from serve_trials.programs import has, run
+from serve_trials.programs import run
 from serve_trials.steps import PROGRAM
-from trials.steps import ServerOfLftp
+from trials.clients import Mount, ServerOfLftp, has
 
 LINES = ['D "/" 0 0 0755', 'D "/d" 1000 1001 0700', 'F "/d/f" 1 2 0644 "hello"', 'F "/empty" 0 0 0000 ""',
          'L "/link" "d/f"', 'D "/open" 12345678 4294967294 01777', 'F "/set" 0 0 06755 "s"',
@@ -149,12 +149,11 @@ def with_lftp(steps, room, expected):
     if not has(steps, "lftp"):
         return
     server = ServerOfLftp(room.folder, command(room))
-    start = f"set sftp:connect-program {server.script}; set net:max-retries 1; open -u u,x sftp://server; "
-    ran = run(["lftp", "-c", f"{start}ls /; bye"], cwd=room.folder)
+    ran = run(["lftp", "-c", "; ".join([*server.settings(), "ls /", "bye"])], cwd=room.folder)
     steps.check(f"lftp, ls: {len(expected['/'])} lines, as ls -ln has them", rows(ran.stdout) == expected["/"],
                 f"{rows(ran.stdout)}, not {expected['/']}")
     server.wait()
-    ran = run(["lftp", "-c", f"{start}mkdir /d; bye"], cwd=room.folder)
+    ran = run(["lftp", "-c", "; ".join([*server.settings(), "mkdir /d", "bye"])], cwd=room.folder)
     server.wait()
     steps.check("lftp, mkdir of what is there: it shows the text", os.strerror(errno.EEXIST) in ran.stdout, ran.stdout)
 
@@ -164,21 +163,13 @@ def with_sshfs(steps, room):
     if not has(steps, "sshfs") or not os.path.exists("/dev/fuse") or os.geteuid() != 0:
         return
     make(room)
-    expected, shown = unpacked(room), {}
+    expected = unpacked(room)
     for words in ([], ["--no-texts", "--no-long-names"]):
-        mount = room.folder / "mount"
-        mount.mkdir(exist_ok=True)
         server = room.serve(*words)
-        sshfs = subprocess.Popen(["sshfs", "-f", "-o", "passive", ":/", mount], stdin=server.input, stdout=server.input)
-        if not trials.wait_until(mount.is_mount, 10):
-            raise AssertionError("the tree is not mounted")
-        try:
+        with Mount(room.folder / "mount", server.input, server.input) as mount:
             shown = {place: rows(run(["ls", "-lnA", f"{mount}{place}"], env=dict(os.environ, LC_ALL="C")).stdout)
                      for place in expected}
             said_by_mkdir = run(["mkdir", mount / "d"]).stdout
-        finally:
-            run(["fusermount3", "-u", mount])
-            sshfs.wait(10)
         told = " ".join(words) or "with words"
         steps.check(f"sshfs, {told}: ls -ln as in the folder", shown == expected, f"{shown}, not {expected}")
         steps.check(f"sshfs, {told}: mkdir says that it is there", os.strerror(errno.EEXIST) in said_by_mkdir,

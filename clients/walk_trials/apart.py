@@ -10,7 +10,8 @@ import time
 from probing import below, planner, servers, starting
 from probing.program import TOP, program
 from sftp3 import trees
-from walk_trials.walks import HOSTILE, POSIX, PROMPT, SFTP_SERVER, run, signalled, wait_until
+from trials.processes import wait_until
+from walk_trials.walks import HOSTILE, POSIX, PROMPT, SFTP_SERVER, run, signalled
 
 PROBE = os.path.join(TOP, "clients", "probe")
 MISBEHAVING = [sys.executable, os.path.join(TOP, "clients", "probing", "misbehaving.py")]

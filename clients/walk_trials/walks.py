@@ -13,6 +13,7 @@ from contextlib import suppress
 from probing import starting
 from probing.program import TOP, program
 from sftp3 import trees
+from trials.processes import executable, kill, processes_of, wait_until
 
 WALK = os.path.join(TOP, "clients", "walk")
 HOSTILE = [sys.executable, os.path.join(TOP, "clients", "walk_trials", "hostile.py")]
@@ -209,33 +210,6 @@ def entries_below(name, place):
     return [line for line in show(name).splitlines() if f'"{place}'.encode() in line.split(b" ", 2)[1]]
 
 
-def executable(name, text):
-    with open(name, "w", encoding="ascii") as file:
-        file.write(text)
-    os.chmod(name, 0o755)
-    return name
-
-
-def processes_of(mark):
-    """The processes that have this in their command line or their environment."""
-    found = []
-    for name in filter(str.isdigit, os.listdir("/proc")):
-        try:
-            for what in ("cmdline", "environ"):
-                with open(f"/proc/{name}/{what}", "rb") as file:
-                    found += [int(name)] if os.fsencode(mark) in file.read() else []
-        except OSError:
-            pass
-    return found
-
-
-def wait_until(holds):
-    """Waits until this holds, or too long."""
-    until = time.monotonic() + PROMPT
-    while not holds() and time.monotonic() < until:
-        time.sleep(0.05)
-
-
 def signalled(folder, words, number, environment, ignored=()):
     """Starts a command, and sends it a signal once the file `mark` is there. Gives its status, or None if it did not
     end in time, what it printed, what it left in its temporary folder, and its processes that are left."""
@@ -260,8 +234,7 @@ def signalled(folder, words, number, environment, ignored=()):
             status, said = None, ""
         left = os.listdir(temporary), processes_of(mark)
         for it in {running.pid, *left[1]} if running.poll() is None or left[1] else ():
-            with suppress(ProcessLookupError):
-                os.kill(it, signal.SIGKILL)
+            kill(it)
     shutil.rmtree(room)
     return status, said, *left
 
