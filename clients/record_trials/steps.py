@@ -9,6 +9,7 @@ TOP = Path(__file__).resolve().parents[2]
 sys.path.insert(0, str(TOP / "clients"))
 import sftp3
 from recording import temporary
+from trials import sessions
 
 RECORD = os.environ.get("RECORD", str(TOP / "clients/record"))
 STUB = str(TOP / "clients/record_trials/stub.py")
@@ -76,13 +77,7 @@ def stubs(folder):
 
 def receive(process, count):
     """So many bytes of the recorder's output, or fewer at its end."""
-    data = b""
-    while len(data) < count:
-        piece = os.read(process.stdout.fileno(), count - len(data))
-        if not piece:
-            break
-        data += piece
-    return data
+    return sessions.receive(process.stdout.fileno(), count)
 
 
 def open_session(process):

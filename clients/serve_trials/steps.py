@@ -16,6 +16,7 @@ import sftp3
 from probing.program import program
 from recording import temporary
 from trials.processes import SOON, children_of, ended, kill
+from trials.sessions import Client
 
 PROGRAM = program()
 # what is tried, as words: `SERVE="FILE serve"` tries the program without the script
@@ -36,69 +37,44 @@ def command(*words):
     return [*SERVE, *words]
 
 
-class Server:
+class Server(Client):
     """A server that was started, and the client's two ends of the session."""
 
     def __init__(self, words, kind, folder, **more):
         if kind == "sockets":
             ours, theirs = socket.socketpair()
-            self.input = self.output = ours.detach()
+            output = ours.detach()
+            super().__init__(output, output)
             reader, writer = theirs.detach(), None
         else:
-            reader, self.input = os.pipe()
-            self.output, writer = os.pipe()
+            reader, input = os.pipe()
+            output, writer = os.pipe()
+            super().__init__(input, output)
         # the signals of a terminal do not come to the trial itself
         options = {"cwd": folder, "stderr": subprocess.PIPE, "start_new_session": True, **more}
         self.process = subprocess.Popen(list(map(str, words)), stdin=reader,
                                         stdout=reader if writer is None else writer, **options)
         for it in {reader, writer} - {None}:
             os.close(it)
-        self.number = 0
-
-    def send(self, data):
-        while data:
-            data = data[os.write(self.input, data):]
-
-    def receive(self, count):
-        """So many bytes, or fewer at the end."""
-        data = b""
-        while len(data) < count:
-            try:
-                piece = os.read(self.output, count - len(data))
-            except ConnectionResetError:
-                break
-            if not piece:
-                break
-            data += piece
-        return data
-
-    def reply(self):
-        """The next packet without its length, or nothing at the end."""
-        head = self.receive(4)
-        return self.receive(int.from_bytes(head, "big")) if len(head) == 4 else b""
 
     def open(self):
         """Opens the session. Returns whether the server replied."""
         try:
-            self.send(sftp3.init())
+            return len(self.greet()) == VERSION_BYTES
         except BrokenPipeError:
             return False
-        return len(self.receive(VERSION_BYTES)) == VERSION_BYTES
-
-    def ask(self, name, *fields):
-        """A request and its reply."""
-        self.number += 1
-        self.send(sftp3.encode(sftp3.Request(self.number, name, list(fields))))
-        return self.reply()
 
     def make(self, name):
         """Makes a directory. Returns whether the reply says OK."""
-        return self.ask("MKDIR", name.encode(), {})[5:9] == bytes(4)
+        return sftp3.Reply(self.ask("MKDIR", name.encode(), {})).code == sftp3.OK
+
+    def handle(self, name, *fields):
+        """The handle that a request opens."""
+        return sftp3.Reply(self.ask(name, *fields)).handle
 
     def create(self, name):
         """Opens a new file. Returns its handle."""
-        said = self.ask("OPEN", name.encode(), WRITTEN, {})
-        return said[9:]
+        return self.handle("OPEN", name.encode(), WRITTEN, {})
 
     def close(self):
         """The client goes away."""

@@ -11,7 +11,7 @@ import time
 from contextlib import contextmanager
 
 from attacking import ground
-from attacking.sessions import Client
+from attacking.sessions import Session
 from attacking.ground import SECONDS, attack
 from attacking.recorders import daemon
 from attacking.saving import TOP
@@ -52,7 +52,7 @@ class Account:
         self.options = [word for it in options for word in ("-o", it)]
 
     def session(self):
-        return Client(["ssh", *self.options, "-s", f"{self.name}@127.0.0.1", "sftp"])
+        return Session(["ssh", *self.options, "-s", f"{self.name}@127.0.0.1", "sftp"])
 
     def sftp(self, lines):
         return subprocess.run(["sftp", *self.options, "-b", "-", f"{self.name}@127.0.0.1"], input=lines, text=True,
