@@ -1,19 +1,15 @@
 """Real clients, as far as they are installed: sftp, lftp and paramiko over the script, and all of them through sshd."""
 import os
 import signal
-import socket
 import subprocess
 import time
-from pathlib import Path
 
 from serve_trials import steps as trials
 from trials.clients import ServerOfLftp, has, paramiko_words, python_with_paramiko
-from trials.processes import SOON, below_of, children_of, wait_until
+from trials.processes import SOON, below_of, wait_until
+from trials.sshd import SSHD, Sshd
 
-SSHD = "/usr/sbin/sshd"
 LARGE = bytes(range(256)) * 40_000
-SSH = ["-o", "IdentitiesOnly=yes", "-o", "StrictHostKeyChecking=no", "-o", "UserKnownHostsFile=/dev/null",
-       "-o", "LogLevel=ERROR"]
 
 
 def command(room, *words):
@@ -86,52 +82,16 @@ def with_paramiko(steps, room):
                 is_saved(room, "/p", "/p/f"), ran.stdout)
 
 
-class Sshd:
-    """A sshd with a subsystem, for the user of this trial."""
-
-    def __init__(self, room, subsystem):
-        self.folder, self.key = room.folder, room.folder / "key"
-        with socket.socket() as probe:
-            probe.bind(("127.0.0.1", 0))
-            self.port = probe.getsockname()[1]
-        for name in ("host", "key"):
-            subprocess.run(["ssh-keygen", "-q", "-t", "ed25519", "-N", "", "-f", room.folder / name], check=True)
-        Path("/run/sshd").mkdir(exist_ok=True)
-        (room.folder / "config").write_text(
-            f"Port {self.port}\nListenAddress 127.0.0.1\nHostKey {room.folder}/host\nPidFile none\nUsePAM no\n"
-            f"AuthorizedKeysFile {room.folder}/key.pub\nStrictModes no\nPermitRootLogin yes\n"
-            f"Subsystem sftp {subsystem}\n")
-        self.process = subprocess.Popen([SSHD, "-D", "-f", room.folder / "config", "-E", room.folder / "sshd.log"])
-        wait_until(self.listens)
-
-    def listens(self):
-        with socket.socket() as probe:
-            return probe.connect_ex(("127.0.0.1", self.port)) == 0
-
-    def options(self):
-        return ["-o", f"Port={self.port}", "-o", f"IdentityFile={self.key}", *SSH]
-
-    def end(self):
-        self.process.terminate()
-        self.process.wait()
-
-    def of_connection(self):
-        """The processes of sshd for the connections that are there."""
-        return children_of(self.process.pid)
-
-
 def with_sshd(steps, room):
     if os.geteuid() != 0 or not os.access(SSHD, os.X_OK):
         steps.skip("sshd", "it needs root, and sshd")
         return
     (room.folder / "large").write_bytes(LARGE)
-    sshd = Sshd(room, command(room, "--log", f"{room.folder}/log", "--verbose"))
-    try:
+    server = command(room, "--log", f"{room.folder}/log", "--verbose")
+    with Sshd(room.folder, f"Subsystem sftp {server}\n") as sshd:
         through_sshd(steps, room, sshd)
         killed_sshd(steps, room, sshd)
         through_sshfs(steps, room, sshd)
-    finally:
-        sshd.end()
 
 
 def through_sshd(steps, room, sshd):
@@ -163,13 +123,13 @@ def killed_sshd(steps, room, sshd):
             sftp.stdin.write(asked)
             sftp.stdin.flush()
             time.sleep(0.5)
-            for it in sshd.of_connection():
+            for it in sshd.of_connections():
                 os.kill(it, number)
             sftp.communicate()
             steps.check(f"{number.name} to sshd's process of the connection, {name}: the tree is saved",
                         is_saved(room, f"/{made}"), f"{room.names()} {room.left()}")
     sftp = begun(words, "mkdir both\n", room)
-    for found in sshd.of_connection():
+    for found in sshd.of_connections():
         for it in [*below_of(found), found]:
             os.kill(it, signal.SIGTERM)
     sftp.communicate()
