@@ -13,6 +13,7 @@ from contextlib import suppress
 from probing import starting
 from probing.program import TOP, program
 from sftp3 import trees
+from trials.probes import SERVE, misbehaving
 from trials.processes import executable, kill, processes_of, wait_until
 
 WALK = os.path.join(TOP, "clients", "walk")
@@ -258,10 +259,8 @@ def try_signals(steps, folder):
 def try_pause(steps, folder):
     """Where all is stopped for longer than a reply may take, as in a container that is paused, no server is blamed."""
     probe = [os.path.join(TOP, "clients", "probe"), "--seeds", "1", "--jobs", "1", "--timeout", "4", "--keep", "kept"]
-    waits = [sys.executable, os.path.join(TOP, "clients", "probing", "misbehaving.py"), "waits_once", program(),
-             "serve", "--tree", "{tree}"]
     for words in ([WALK, "--timeout", "4", "--to", "seen.tree", "--", *HOSTILE, "marks_and_waits"],
-                  [*probe, "--", *waits]):
+                  [*probe, "--", *misbehaving("waits_once")]):
         mark = os.path.join(tempfile.mkdtemp(dir=folder), "mark")
         with subprocess.Popen(words, cwd=folder, env={**os.environ, "MARK": mark}, stdin=subprocess.DEVNULL,
                               stdout=subprocess.PIPE, stderr=subprocess.STDOUT) as running:
@@ -374,7 +373,7 @@ def try_soft_limit(steps, folder):
 
 def try_full_disk(steps, folder):
     """Where no file can be written, a walk and a probe fail: they do not tell of a tree or of differences."""
-    probe = [os.path.join(TOP, "clients", "probe"), "--", program(), "serve", "--tree", "{tree}"]
+    probe = [os.path.join(TOP, "clients", "probe"), "--", *SERVE]
     for name, words in (("walk", [WALK, "--to", "seen.tree", "--", *HOSTILE, "Right"]), ("probe", probe)):
         status, said = run(words, folder, preexec_fn=no_files)
         steps.check(f"{name}: without a place for temporary files: status 3", status == 3 and "temporary" in said
