@@ -1,19 +1,10 @@
-"""The program to try, and the files that are kept of a trial that failed."""
+"""The program that answers again, and the files that are kept of a trial that failed."""
 import functools
 import os
 import shutil
 import subprocess
 
-TOP = os.path.dirname(os.path.dirname(os.path.realpath(__file__)))
-
-
-@functools.cache
-def program():
-    """The program of SFTPV3, or the one that ./sftpv3 builds if it has to."""
-    if "SFTPV3" in os.environ:
-        return os.path.realpath(os.environ["SFTPV3"])
-    subprocess.run([os.path.join(TOP, "sftpv3"), "--version"], stdout=subprocess.DEVNULL, check=True)
-    return os.path.join(TOP, "out", "sftpv3")
+from probing.program import TOP
 
 
 @functools.cache

@@ -4,10 +4,10 @@ import os
 import shutil
 import subprocess
 import time
+from contextlib import contextmanager
 
 from dates_trials.rooms import OLD
-from serve_trials.steps import wait_until
-from trials.steps import ServerOfLftp
+from trials.clients import Mount, ServerOfLftp, has
 
 # sshfs 3.7.3 opens what is there with TRUNC and without CREAT, which the draft does not allow; so nothing is opened so.
 MAKEFILE = "out: in\n\tcp --remove-destination in out\n"
@@ -19,36 +19,16 @@ def run(words, **more):
     return subprocess.run(list(map(str, words)), stdout=subprocess.PIPE, stderr=subprocess.STDOUT, text=True, **more)
 
 
-class Mount:
+@contextmanager
+def mounted(room, *more):
     """A blank tree, mounted by sshfs."""
-
-    def __init__(self, room, *more):
-        room.clear()
-        self.place = room.folder / "mount"
-        self.place.mkdir(exist_ok=True)
-        self.server = subprocess.Popen(room.command(*more), stdin=subprocess.PIPE, stdout=subprocess.PIPE)
-        self.sshfs = subprocess.Popen(["sshfs", "-f", "-o", f"passive,{FRESH}", ":/", self.place],
-                                      stdin=self.server.stdout, stdout=self.server.stdin)
-        self.server.stdin.close()
-        self.server.stdout.close()
-
-    def __enter__(self):
-        if not wait_until(self.place.is_mount, 20):
-            raise AssertionError("the tree is not mounted")
-        return self.place
-
-    def __exit__(self, *_):
-        run(["fusermount3", "-u", self.place])
-        self.sshfs.wait(20)
-        self.server.wait(20)
-
-
-def has(steps, *names):
-    for name in names:
-        if shutil.which(name) is None:
-            steps.skip(name, "it is not installed")
-            return False
-    return True
+    room.clear()
+    with subprocess.Popen(room.command(*more), stdin=subprocess.PIPE, stdout=subprocess.PIPE) as server:
+        mount = Mount(room.folder / "mount", server.stdout, server.stdin, FRESH)
+        server.stdin.close()
+        server.stdout.close()
+        with mount as place:
+            yield place
 
 
 def can_mount(steps):
@@ -79,7 +59,7 @@ def with_make(steps, room):
     if not can_mount(steps) or not has(steps, "make"):
         return
     for more in (["--times"], []):
-        with Mount(room, *more) as place:
+        with mounted(room, *more) as place:
             is_made = made(place)
         told = "with times" if more else "without times"
         steps.check(f"make on sshfs, {told}: a changed source is {'' if more else 'not '}made again",
@@ -90,7 +70,7 @@ def with_touch(steps, room):
     if not can_mount(steps):
         return
     for more in (["--times"], []):
-        with Mount(room, *more) as place:
+        with mounted(room, *more) as place:
             (place / "f").write_text("text")
             run(["touch", "-d", f"@{OLD}", place / "f"])
             run(["cp", "-p", place / "f", place / "copy"])
@@ -113,7 +93,7 @@ def with_second_copies(steps, room):
         source = room.folder / "source"
         source.write_text("one")
         os.utime(source, (OLD, OLD))
-        with Mount(room, *more) as place:
+        with mounted(room, *more) as place:
             shutil.copy2(source, place / "copy")
             first = differ(source, place / "copy")
             source.write_text("two")

@@ -9,6 +9,7 @@ from pathlib import Path
 
 import sftp3
 from probing.program import TOP, program
+from trials.sessions import Client
 
 PROGRAM = program()
 OPENSSH = "/usr/lib/openssh/sftp-server"
@@ -27,20 +28,14 @@ class Refused(AssertionError):
     """A status that is not OK."""
 
 
-class Server:
+class Server(Client):
     """A server that was started over pipes, below a folder if it has one."""
 
     def __init__(self, words, below=b""):
-        self.below, self.number = below, 0
+        self.below = below
         self.process = subprocess.Popen(words, stdin=subprocess.PIPE, stdout=subprocess.PIPE)
-        self.process.stdin.write(sftp3.init())
-        self.process.stdin.flush()
-        self.packet()
-
-    def packet(self):
-        """The next packet, with its length."""
-        head = self.process.stdout.read(4)
-        return head + self.process.stdout.read(int.from_bytes(head, "big"))
+        super().__init__(self.process.stdin.fileno(), self.process.stdout.fileno())
+        self.greet()
 
     def place(self, path):
         return self.below + path if path.startswith(b"/") else path
@@ -49,11 +44,7 @@ class Server:
         """A request, whose paths are below the folder, and its reply."""
         kinds = sftp3.REQUESTS[name][1].split()
         fields = [self.place(it) if kind in ("path", "new_path", "link") else it for kind, it in zip(kinds, fields)]
-        self.number += 1
-        request = sftp3.Request(self.number, name, fields)
-        self.process.stdin.write(sftp3.encode(request))
-        self.process.stdin.flush()
-        reply = sftp3.read(sftp3.SERVER, self.packet())
+        reply = sftp3.read(sftp3.SERVER, super().ask(name, *fields))
         if reply.name == "STATUS" and reply.fields[0] not in (sftp3.OK, sftp3.EOF):
             raise Refused(f"{name}: {reply.fields[0]}")
         return reply

@@ -6,22 +6,15 @@ import random
 import sftp3
 from infer_trials import judging
 from probing import mutated, program
-from probing.plans import Step
 from sftp3 import trees
+from trials.probes import Plan
 
 # The seeds, and the most sessions with a mistake of a kind that come from one.
 SEEDS, MOST = range(1, 41), 2
 
 
-class Plan:
-    """Steps of a plan, as they are asked."""
-
-    def __init__(self):
-        self.steps = []
-
-    def ask(self, name, *fields):
-        self.steps.append(Step(len(self.steps) + 1, name, list(fields)))
-        return self.steps[-1].opened()
+class Looks(Plan):
+    """A plan with looks of several requests each."""
 
     def listing(self, path, count):
         handle = self.ask("OPENDIR", path)
@@ -75,7 +68,7 @@ def work(plan, draw, tree):
 
 
 def plan_of(seed, tree, looks_first):
-    plan, draw = Plan(), random.Random(f"mistakes {seed}")
+    plan, draw = Looks(), random.Random(f"mistakes {seed}")
     if looks_first:
         look(plan, tree)
     work(plan, draw, tree)

@@ -3,18 +3,17 @@ sessions of other servers in examples/servers, by the verdicts of `--profile pos
 import os
 import random
 import shutil
-import socket
 import subprocess
-import sys
 import tempfile
 import time
-from contextlib import suppress
 from dataclasses import dataclass
 
 from infer_trials import judging
 from probing import program, starting
 from sftp3 import trees
 from trials import other_servers
+from trials.clients import Mount, NotMounted, ServerOfLftp, on_socket, paramiko_words, python_with_paramiko
+from trials.processes import ended
 
 SFTP_SERVER = "/usr/lib/openssh/sftp-server"
 POSIX = ["--profile", "posix"]
@@ -48,20 +47,8 @@ PARAMIKO = (
     "f = c.open('/log', 'a'); f.write(b'one'); f.write(b'two'); f.close(); c.open('/log').read(); c.remove('/log'); "
     "c.rename('/d/g', '/d/h'); c.listdir('/d'); c.rmdir('/empty'); c.normalize('.'); c.listdir('/')",
 )
-RUN_PARAMIKO = """
-import socket, subprocess, sys
-import paramiko
-class Named(socket.socket):
-    def get_name(self):
-        return "sftpv3"
-ours, theirs = socket.socketpair()
-with theirs:
-    server = subprocess.Popen(sys.argv[2:], stdin=theirs, stdout=theirs)
-c = paramiko.SFTPClient(Named(fileno=ours.detach()))
-exec(sys.argv[1])
-c.close()
-server.wait(20)
-"""
+# What is run in front of each of these, and behind it.
+BEGUN, ENDED = "c = client\n", "\nc.close()\nserver.wait(20)\n"
 
 SSHFS = (
     "mkdir m && cp f m/copy && cat m/copy && mv m/copy m/moved && ls -l m && rm m/moved && rmdir m",
@@ -104,46 +91,25 @@ def with_sftp(room, text):
 
 
 def with_lftp(room, text):
-    # lftp calls it as it calls ssh: with options, the host and the name of the subsystem behind
-    caller = os.path.join(room.folder, "connect")
-    with open(caller, "w", encoding="ascii") as file:
-        file.write(f"#!/bin/sh\nexec {' '.join(room.server())}\n")
-    os.chmod(caller, 0o755)
-    run(["lftp", "-c", f"set sftp:connect-program {caller}; set net:max-retries 1; set cmd:fail-exit yes; "
-                       f"open -u u,x sftp://server; {room.filled(text)}; bye"], room)
+    server = ServerOfLftp(room.folder, " ".join(room.server()))
+    run(["lftp", "-c", "; ".join([*server.settings(), room.filled(text), "bye"])], room)
+    server.wait()
 
 
 def with_paramiko(room, text):
-    run([python_with_paramiko(), "-c", RUN_PARAMIKO, text, *room.server()], room)
+    run(paramiko_words(BEGUN + text + ENDED, room.server()), room)
 
 
 def with_sshfs(room, text):
-    mount = os.path.join(room.folder, "mount")
-    os.mkdir(mount)
-    ours, theirs = socket.socketpair()
-    with ours, theirs:
-        server = subprocess.Popen(room.server(), stdin=theirs, stdout=theirs)
-        sshfs = subprocess.Popen(["sshfs", "-f", "-o", "passive", ":/", mount], stdin=ours, stdout=ours,
-                                 stderr=subprocess.DEVNULL)
-    try:
-        deadline = time.monotonic() + 10
-        while not os.path.ismount(mount) and time.monotonic() < deadline:
-            time.sleep(0.05)
-        run(["sh", "-e", "-c", f"cd {mount}; {text}"], room)
+    server, ours = on_socket(room.server())
+    with ours:
+        mount = Mount(os.path.join(room.folder, "mount"), ours, ours)
+    with mount as folder:
+        run(["sh", "-e", "-c", f"cd {folder}; {text}"], room)
         # what the system still has to close goes before the end of the session
         os.sync()
         time.sleep(0.5)
-    finally:
-        subprocess.run(["fusermount3", "-u", mount], check=False, capture_output=True)
-        for process in (sshfs, server):
-            with suppress(subprocess.TimeoutExpired):
-                process.wait(10)
-
-
-def python_with_paramiko():
-    """A Python that has paramiko, or None."""
-    return next((it for it in ("/usr/bin/python3", sys.executable) if os.path.exists(it) and not subprocess.run(
-        [it, "-c", "import paramiko"], capture_output=True, check=False).returncode), None)
+    ended(server, 10)
 
 
 CLIENTS = (("sftp", with_sftp, SFTP, lambda: shutil.which("sftp")),
@@ -155,7 +121,10 @@ CLIENTS = (("sftp", with_sftp, SFTP, lambda: shutil.which("sftp")),
 def attempt(folder, client, text):
     """Whether a session is accepted with its tree and without it, and what was said."""
     room = Room(folder)
-    client(room, text)
+    try:
+        client(room, text)
+    except NotMounted as error:
+        raise judging.Wrong(str(error)) from None
     is_right, said = judging.accepted_with(program.program(), room.tree, room.transcript, POSIX)
     if not is_right:
         return False, False, said

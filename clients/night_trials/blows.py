@@ -7,6 +7,7 @@ from concurrent.futures import ThreadPoolExecutor
 
 from night_trials.place import ENDS_WELL, USER, Place, changed
 from record_trials.steps import TOP
+from trials.processes import executable
 
 # How many runs are tried at once.
 AT_ONCE = 4
@@ -140,10 +141,8 @@ def kill_recorder_at(place, number):
     room.mkdir()
     of_its_own = Place(room, place.steps)
     of_its_own.nightly()
-    recorder = room / "recorder"
-    recorder.write_text(KILLED_RECORDER.format(number=number, record=str(TOP / "clients/record")))
-    recorder.chmod(0o755)
-    of_its_own.words[0] = recorder
+    text = KILLED_RECORDER.format(number=number, record=str(TOP / "clients/record"))
+    of_its_own.words[0] = executable(room / "recorder", text)
     is_whole = of_its_own.try_session("mkdir d", f"put {__file__} d/f", "ls -l d", "rename d/f g")
     status, said = of_its_own.nightly()
     is_well = status in (0, 1) and "refused" not in said and "Traceback" not in said and \

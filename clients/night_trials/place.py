@@ -5,6 +5,7 @@ import subprocess
 import time
 
 from record_trials.steps import INIT, PROGRAM, TOP, receive
+from trials.processes import executable
 
 SERVER = "/usr/lib/openssh/sftp-server"
 USER = pwd.getpwuid(os.getuid()).pw_name
@@ -40,9 +41,7 @@ class Place:
 
     def try_session(self, *commands):
         """The same. Returns whether it went through."""
-        server = self.room / "server"
-        server.write_text(f"#!/bin/sh\nexec {' '.join(map(str, self.words))}\n")
-        server.chmod(0o755)
+        server = executable(self.room / "server", f"#!/bin/sh\nexec {' '.join(map(str, self.words))}\n")
         ran = subprocess.run(["sftp", "-q", "-b", "-", "-D", server], input="\n".join([f"cd {self.live}", *commands]),
                              text=True, cwd=self.room, stdout=subprocess.DEVNULL, check=False)
         time.sleep(1.2)
@@ -75,7 +74,5 @@ class Place:
 
 def changed(place, code):
     """A script that is clients/nightly, changed by this code."""
-    script = place.room / "changed"
-    script.write_text(CHANGED.format(clients=str(TOP / "clients"), nightly=str(TOP / "clients/nightly"), code=code))
-    script.chmod(0o755)
-    return script
+    text = CHANGED.format(clients=str(TOP / "clients"), nightly=str(TOP / "clients/nightly"), code=code)
+    return executable(place.room / "changed", text)

@@ -14,11 +14,13 @@ from probing import (  # noqa: E402 (the folder above is not searched before)
     faulty, faulty_handles, faulty_kept, faulty_meetings, faulty_names, faulty_order, faulty_reads, faulty_replies,
     faulty_served, faulty_stores, faulty_times, faulty_writes, planted)
 
-# The faults by their names, in the order of docs/PROBE.md.
-FAULTS = {fault.__name__.replace("_", "-"): fault
-          for module in (faulty_writes, faulty_reads, faulty_names, faulty_replies, faulty_meetings, faulty_order,
-                         faulty_kept, faulty_stores, faulty_handles, faulty_served, faulty_times)
-          for fault in module.FAULTS}
+MODULES = (faulty_writes, faulty_reads, faulty_names, faulty_replies, faulty_meetings, faulty_order, faulty_kept,
+           faulty_stores, faulty_handles, faulty_served, faulty_times)
+
+# The faults by their names, in the order of docs/PROBE.md: the classes of a module whose names are in small letters.
+FAULTS = {name.replace("_", "-"): fault
+          for module in MODULES for name, fault in vars(module).items()
+          if name.islower() and getattr(fault, "__module__", "") == module.__name__ and isinstance(fault, type)}
 
 # What is no fault.
 SOUND = {"small-room": faulty.SmallRoom}

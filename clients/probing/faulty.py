@@ -12,14 +12,18 @@ import struct
 import sftp3
 from probing import planted
 
-OK_STATUS, END, FAILED = (code.to_bytes(4, "big") for code in (sftp3.OK, sftp3.EOF, sftp3.FAILURE))
+OK_STATUS, END, ABSENT, FAILED = (code.to_bytes(4, "big") for code in (
+    sftp3.OK, sftp3.EOF, sftp3.NO_SUCH_FILE, sftp3.FAILURE))
+
+# Requests that give something another path, that look at a path, and that set attributes.
+MOVES, LOOKS, SETS = ("RENAME", "POSIX-RENAME"), ("STAT", "LSTAT"), ("SETSTAT", "FSETSTAT")
 
 # Where the ids of requests begin that a fault makes itself, whose replies the client does not see. No plan has these.
 OWN_IDS = 0xF0000000
 
 
 class Fault(planted.Bug):
-    """A server with one fault. A fault overrides `ask` or `answer`, or what a class below leaves to it."""
+    """A server with one fault. A fault overrides `alter`, `ask` or `answer`, or what a class below leaves to it."""
 
     # The options that `serve`, the sound server behind it, needs to show it.
     OPTIONS: tuple = ()
@@ -29,6 +33,9 @@ class Fault(planted.Bug):
         # requests by their ids, and those that opened what is open, by its handle; how far a path's file was written
         self.asked, self.opened, self.lengths = {}, {}, {}
         self.own, self.unseen = OWN_IDS, set()
+
+    def alter(self, asked):
+        """Changes a request, or notes something of it, before the server gets it."""
 
     def ask(self, asked):
         """The requests that the server gets in place of this one."""
@@ -47,7 +54,9 @@ class Fault(planted.Bug):
         self.asked[asked.number] = asked
         if asked.name == "CLOSE":
             asked.opened = self.opened.pop(asked.handle(), None)
-        found = self.ask(sftp3.Request(asked.number, asked.name, list(asked.fields)))
+        own = sftp3.Request(asked.number, asked.name, list(asked.fields))
+        self.alter(own)
+        found = self.ask(own)
         if asked.name == "WRITE" and asked.handle() in self.opened:
             path, end = self.path(asked), asked.fields[1] + len(asked.fields[2])
             self.lengths[path] = max(self.lengths.get(path, 0), end)
@@ -74,6 +83,10 @@ class Fault(planted.Bug):
         self.own += 1
         self.unseen.add(self.own)
         return sftp3.Request(self.own, name, list(fields))
+
+    def closed(self, asked):
+        """The request that gave the handle of a CLOSE, or None."""
+        return getattr(self.asked[asked.number], "opened", None)
 
     def opener_number(self, asked):
         """The number of the request that opened the handle of a request, or None."""
@@ -122,8 +135,7 @@ class Asks(Fault):
 
     def attributes_now(self, name, path_or_handle):
         """The attributes of something, or None."""
-        reply = self.now(name, path_or_handle)
-        return sftp3.Fields(reply[9:]).attributes() if reply[4] == sftp3.ATTRS else None
+        return attributes_of(self.now(name, path_or_handle))
 
     def bytes_now(self, path):
         """The bytes of the file at a path, or None."""
@@ -167,6 +179,24 @@ def clean(path):
     return posixpath.normpath(b"/" + path.lstrip(b"/"))
 
 
+def is_below(path, top):
+    """Whether a path leads below another, both with one spelling."""
+    return path.startswith(top + b"/")
+
+
+def paths_of(asked):
+    """The paths of a request, each with one spelling."""
+    if asked.handle() is not None or asked.name == "EXTENDED":
+        return []
+    return [clean(value) for value in asked.fields[:2] if isinstance(value, bytes)]
+
+
+def aim_of(asked):
+    """Where the link that a SYMLINK makes leads, with one spelling."""
+    target, link = asked.fields
+    return clean(posixpath.join(posixpath.dirname(clean(link)), target))
+
+
 def is_path(asked, place):
     """Whether a field of a request is a path, or the target of a link."""
     return isinstance(asked.fields[place], bytes) and asked.name not in ("WRITE", "EXTENDED") and asked.handle() is None
@@ -178,7 +208,7 @@ def refused(asked):
 
 
 def sets_size(asked):
-    return asked.name in ("SETSTAT", "FSETSTAT") and asked.fields[1].get("size", FAR) < FAR
+    return asked.name in SETS and asked.fields[1].get("size", FAR) < FAR
 
 
 def data_of(packet):
@@ -188,6 +218,16 @@ def data_of(packet):
 def with_data(packet, data):
     """DATA in place of a reply."""
     return sftp3.packet(sftp3.DATA, packet[5:9] + sftp3.string(data))
+
+
+def attributes_of(packet):
+    """The attributes in a reply, or None."""
+    return sftp3.Fields(packet[9:]).attributes() if packet[4] == sftp3.ATTRS else None
+
+
+def with_attributes(packet, given):
+    """ATTRS with these attributes in place of a reply."""
+    return sftp3.packet(sftp3.ATTRS, packet[5:9] + sftp3.attributes(given))
 
 
 def names_of(packet):
@@ -268,10 +308,8 @@ class Attributes(Fault):
     """Shows other attributes in the replies to STAT, LSTAT and FSTAT."""
 
     def answer(self, asked, reply):
-        if reply[4] != sftp3.ATTRS:
-            return [reply]
-        given = self.seen(asked, sftp3.Fields(reply[9:]).attributes())
-        return [sftp3.packet(sftp3.ATTRS, reply[5:9] + sftp3.attributes(given))]
+        given = attributes_of(reply)
+        return [reply if given is None else with_attributes(reply, self.seen(asked, given))]
 
     def seen(self, _asked, given):
         return given

@@ -1,61 +1,49 @@
 """Faults of servers in handles, in counts, in what follows a refused request, and in what a request sets."""
 import sftp3
-from probing.faulty import FAR, Asks, Fault, Reads, Writes, refused, sets_size
+from probing.faulty import FAR, SETS, Asks, Fault, Reads, refused, sets_size
 from probing.faulty_meetings import Refuses
+from probing.faulty_writes import write_lost_by_count
 
 
 class longer_handle_works(Fault):
     """A handle with a byte of 0 behind it is taken for the handle."""
 
-    def ask(self, asked):
+    def alter(self, asked):
         handle = asked.handle()
         if handle is not None and handle.endswith(b"\0") and handle not in self.opened and handle[:-1] in self.opened:
             asked.fields[0] = handle[:-1]
-        return [asked]
 
 
 class failed_opens_leak(Refuses):
     """OPEN fails behind 100 that failed."""
+
+    REQUEST, MOST = "OPEN", 100
 
     def __init__(self):
         super().__init__()
         self.failed = 0
 
     def answer(self, asked, reply):
-        self.failed += asked.name == "OPEN" and reply[4] == sftp3.STATUS
+        self.failed += asked.name == self.REQUEST and reply[4] == sftp3.STATUS
         return [reply]
 
     def refuses(self, asked):
-        return asked.name == "OPEN" and self.failed >= 100
+        return asked.name == self.REQUEST and self.failed >= self.MOST
 
 
 class failed_listings_leak(failed_opens_leak):
     """OPENDIR fails behind 60 that failed."""
 
-    def answer(self, asked, reply):
-        self.failed += asked.name == "OPENDIR" and reply[4] == sftp3.STATUS
-        return [reply]
-
-    def refuses(self, asked):
-        return asked.name == "OPENDIR" and self.failed >= 60
+    REQUEST, MOST = "OPENDIR", 60
 
 
-class write_256_lost(Writes):
+class write_256_lost(write_lost_by_count):
     """The 256th WRITE through a handle is lost."""
 
     COUNT = 256
 
-    def __init__(self):
-        super().__init__()
-        self.counts = {}
 
-    def loses(self, asked, _offset, _data):
-        number = self.opener_number(asked)
-        self.counts[number] = self.counts.get(number, 0) + 1
-        return self.counts[number] == self.COUNT
-
-
-class write_128_lost(write_256_lost):
+class write_128_lost(write_lost_by_count):
     """The 128th WRITE through a handle is lost."""
 
     COUNT = 128
@@ -64,8 +52,6 @@ class write_128_lost(write_256_lost):
 class read_256_wrong(Reads):
     """The 256th READ through a handle gives bytes of 0."""
 
-    COUNT = 256
-
     def __init__(self):
         super().__init__()
         self.counts = {}
@@ -73,7 +59,7 @@ class read_256_wrong(Reads):
     def shown(self, asked, _offset, data):
         number = self.opener_number(asked)
         self.counts[number] = self.counts.get(number, 0) + 1
-        return bytes(len(data)) if self.counts[number] == self.COUNT else data
+        return bytes(len(data)) if self.counts[number] == 256 else data
 
 
 class Failing(Fault):
@@ -114,7 +100,7 @@ class read_goes_on_behind_write(Reads):
         super().__init__()
         self.ends, self.place = {}, {}
 
-    def ask(self, asked):
+    def alter(self, asked):
         number = self.opener_number(asked)
         if asked.name == "WRITE" and number in self.ends and asked.fields[1] < FAR:
             self.place[number] = asked.fields[1] + len(asked.fields[2])
@@ -123,7 +109,6 @@ class read_goes_on_behind_write(Reads):
             place = self.place.pop(number, offset) if self.ends.get(number) == offset else offset
             self.ends[number] = offset + count
             asked.fields[1] = place
-        return [asked]
 
 
 class same_size_empties(Asks):
@@ -142,10 +127,6 @@ class same_size_empties(Asks):
 class permissions_at_limit(Fault):
     """SETSTAT of permissions leaves the file's own if they are those of no one (0)."""
 
-    def ask(self, asked):
-        if asked.name in ("SETSTAT", "FSETSTAT") and asked.fields[1].get("permissions", 1) & 0o7777 == 0:
+    def alter(self, asked):
+        if asked.name in SETS and asked.fields[1].get("permissions", 1) & 0o7777 == 0:
             del asked.fields[1]["permissions"]
-        return [asked]
-
-
-FAULTS = [fault for name, fault in list(globals().items()) if isinstance(fault, type) and name.islower()]

@@ -4,25 +4,10 @@ import posixpath
 
 import sftp3
 from probing.faulty import (
-    BLOCK, FAR, Asks, Attributes, Fault, Listings, Reads, Writes, clean, data_of, refused, sets_size, status)
+    ABSENT, BLOCK, FAR, LOOKS, MOVES, Asks, Attributes, Fault, Listings, Reads, Writes, aim_of, clean, data_of,
+    paths_of, refused, sets_size, status)
 from probing.faulty_meetings import Meets
-
-READ, WRITE, APPEND, CREAT, TRUNC, EXCL = (
-    sftp3.READ, sftp3.WRITE, sftp3.APPEND, sftp3.CREAT, sftp3.TRUNC, sftp3.EXCL)
-ABSENT = sftp3.NO_SUCH_FILE.to_bytes(4, "big")
-MOVES = ("RENAME", "POSIX-RENAME")
-LOOKS = ("STAT", "LSTAT")
-
-
-def paths_of(asked):
-    """The paths of a request, each with one spelling."""
-    if asked.handle() is not None or asked.name == "EXTENDED":
-        return []
-    return [clean(value) for value in asked.fields[:2] if isinstance(value, bytes)]
-
-
-def is_below(path, top):
-    return path.startswith(top + b"/")
+from sftp3 import APPEND, CREAT, EXCL, TRUNC
 
 
 class link_replaced_unseen(Fault):
@@ -32,10 +17,9 @@ class link_replaced_unseen(Fault):
         super().__init__()
         self.aims, self.stale = {}, {}
 
-    def ask(self, asked):
+    def alter(self, asked):
         if asked.name == "SYMLINK":
-            target, link = asked.fields
-            self.aims[clean(link)] = clean(posixpath.join(posixpath.dirname(clean(link)), target))
+            self.aims[clean(asked.fields[1])] = aim_of(asked)
         if asked.name in MOVES:
             old, new = paths_of(asked)
             if asked.name == "POSIX-RENAME" and old in self.aims and new in self.aims:
@@ -46,7 +30,6 @@ class link_replaced_unseen(Fault):
             self.stale.pop(clean(asked.fields[0]), None)
         if asked.name in ("STAT", "OPEN", "OPENDIR"):
             asked.fields[0] = self.stale.get(clean(asked.fields[0]), asked.fields[0])
-        return [asked]
 
 
 class stays_absent_below(Fault):
@@ -57,17 +40,16 @@ class stays_absent_below(Fault):
         super().__init__()
         self.absent, self.put = set(), set()
 
-    def ask(self, asked):
+    def alter(self, asked):
         if asked.name in ("OPEN", "MKDIR", "SYMLINK", "HARDLINK", *MOVES):
             self.put |= set(paths_of(asked))
             self.absent -= self.put
-        return [asked]
 
     def answer(self, asked, reply):
         if asked.name not in LOOKS:
             return [reply]
         path = clean(asked.fields[0])
-        if reply[4] == sftp3.STATUS and sftp3.Reply(reply).code == sftp3.NO_SUCH_FILE and path not in self.put:
+        if sftp3.Reply(reply).code == sftp3.NO_SUCH_FILE and path not in self.put:
             self.absent.add(path)
         return [status(reply, ABSENT) if path in self.absent else reply]
 
@@ -82,7 +64,7 @@ class ReadAhead(Asks, Reads):
         super().__init__()
         self.ahead = {}
 
-    def ask(self, asked):
+    def alter(self, asked):
         number = self.opener_number(asked)
         if asked.name in self.CHANGES:
             self.ahead.pop(number, None)
@@ -91,7 +73,6 @@ class ReadAhead(Asks, Reads):
             known = self.ahead.get(number)
             self.asked[asked.number].known = known[1] if known and known[0] == offset else b""
             self.ahead[number] = offset + count, self.seen_now(handle, offset + count, count)
-        return [asked]
 
     def seen_now(self, handle, offset, count):
         reply = self.now("READ", handle, offset, count)
@@ -199,13 +180,12 @@ class GapKeeps(Asks, Writes):
         super().__init__()
         self.before = {}
 
-    def ask(self, asked):
+    def alter(self, asked):
         if self.cuts(asked):
             path = clean(asked.fields[0] if asked.handle() is None else self.path(asked) or b"/")
             found = self.bytes_now(path)
             if found:
                 self.before[path] = found
-        return super().ask(asked)
 
     def cuts(self, _asked):
         """Whether a request may cut a file."""
@@ -234,16 +214,12 @@ class name_lost_behind_removal(Meets, Listings):
         super().__init__()
         self.skips = set()
 
-    def ask(self, asked):
+    def alter(self, asked):
         if asked.name in ("REMOVE", "RMDIR"):
             self.skips |= self.numbers_at(posixpath.dirname(clean(asked.fields[0])), "OPENDIR")
-        return [asked]
 
     def listed(self, asked, before, items):
         number = self.opener_number(asked)
         lacks = before and number in self.skips
         self.skips.discard(number)
         return items[1:] if lacks else items
-
-
-FAULTS = [fault for name, fault in list(globals().items()) if isinstance(fault, type) and name.islower()]

@@ -4,15 +4,9 @@ import posixpath
 
 import sftp3
 from probing.faulty import (
-    END, FAILED, FAR, Fault, InFlight, Listings, clean, is_path, names_of, refused, sets_size, status,
-    with_names)
-
-READ, WRITE, APPEND, CREAT, TRUNC, EXCL = (
-    sftp3.READ, sftp3.WRITE, sftp3.APPEND, sftp3.CREAT, sftp3.TRUNC, sftp3.EXCL)
-
-def attributes_of(packet):
-    """The attributes in a reply, or None."""
-    return sftp3.Fields(packet[9:]).attributes() if packet[4] == sftp3.ATTRS else None
+    ABSENT, END, FAILED, FAR, LOOKS, MOVES, SETS, Attributes, Fault, InFlight, Listings, aim_of, attributes_of, clean,
+    is_path, names_of, refused, sets_size, status, with_names)
+from sftp3 import APPEND, CREAT, EXCL, READ, TRUNC, WRITE
 
 
 class Meets(Fault):
@@ -34,6 +28,10 @@ class Meets(Fault):
         asked = self.another(name, *fields)
         self.calls[asked.number] = call
         return asked
+
+    def look(self, call, name, path):
+        """A request of its own that looks at a path; `call` gets the attributes, or None."""
+        return self.question(lambda packet: call(attributes_of(packet)), name, path)
 
     def openers(self, name="OPEN"):
         return [opener for opener in list(self.opened.values()) if opener.name == name]
@@ -121,12 +119,11 @@ class listings_leak(Refuses):
 class listings_share_place(Meets):
     """With ten directories open, READDIR through a handle goes to the first that is open of the same directory."""
 
-    def ask(self, asked):
+    def alter(self, asked):
         opened = [(handle, opener) for handle, opener in list(self.opened.items()) if opener.name == "OPENDIR"]
         if asked.name == "READDIR" and len(opened) >= 10 and asked.handle() in dict(opened):
             path = clean(self.path(asked))
             asked.fields[0] = next(handle for handle, opener in opened if clean(opener.fields[0]) == path)
-        return [asked]
 
 
 class long_listing_cut(Fault):
@@ -147,27 +144,25 @@ class stays_absent(Fault):
         super().__init__()
         self.absent = set()
 
-    def ask(self, asked):
+    def alter(self, asked):
         if asked.name in ("OPEN", "MKDIR", "SYMLINK", "HARDLINK"):
             self.absent -= {clean(path) for path in asked.fields[:2] if isinstance(path, bytes)}
-        return [asked]
 
     def answer(self, asked, reply):
-        if asked.name not in ("STAT", "LSTAT"):
+        if asked.name not in LOOKS:
             return [reply]
         path = clean(asked.fields[0])
-        if reply[4] == sftp3.STATUS and sftp3.Reply(reply).code == sftp3.NO_SUCH_FILE:
+        if sftp3.Reply(reply).code == sftp3.NO_SUCH_FILE:
             self.absent.add(path)
-        return [status(reply, sftp3.NO_SUCH_FILE.to_bytes(4, "big")) if path in self.absent else reply]
+        return [status(reply, ABSENT) if path in self.absent else reply]
 
 
 class append_keeps_truncated(Fault):
     """OPEN with APPEND passes over TRUNC."""
 
-    def ask(self, asked):
+    def alter(self, asked):
         if asked.name == "OPEN" and asked.fields[1] & APPEND and asked.fields[1] & WRITE:
             asked.fields[1] &= ~TRUNC
-        return [asked]
 
 
 class append_to_own_end(Meets):
@@ -179,10 +174,9 @@ class append_to_own_end(Meets):
             opener.end = 0
             asked.fields[1] &= ~APPEND
 
-            def known(packet):
-                given = attributes_of(packet)
+            def known(given):
                 opener.end = given["size"] if given and not empties else 0
-            return [self.question(known, "STAT", asked.fields[0]), asked]
+            return [self.look(known, "STAT", asked.fields[0]), asked]
         opener = self.opened.get(asked.handle()) if asked.name == "WRITE" else None
         if hasattr(opener, "end"):
             asked.fields[1] = opener.end
@@ -200,10 +194,9 @@ class append_while_open_fails(Refuses):
 class open_to_write_makes(Fault):
     """OPEN to write makes a file without CREAT."""
 
-    def ask(self, asked):
+    def alter(self, asked):
         if asked.name == "OPEN" and asked.fields[1] & WRITE and not asked.fields[1] & ~(READ | WRITE | APPEND):
             asked.fields[1] |= CREAT
-        return [asked]
 
 
 class open_makes_directory(Fault):
@@ -249,21 +242,19 @@ class slash_cannot_be_made(Refuses):
 class empty_path_leads_nowhere(Fault):
     """A path of no bytes leads nowhere."""
 
-    def ask(self, asked):
+    def alter(self, asked):
         if asked.name != "SYMLINK" and is_path(asked, 0) and not asked.fields[0]:
             asked.fields[0] = b"/absent/absent"
-        return [asked]
 
 
 class long_path_fails(Fault):
     """A path of more than 280 bytes, and less than 1,024, leads nowhere."""
 
-    def ask(self, asked):
+    def alter(self, asked):
         for place in range(min(2, len(asked.fields))):
             if is_path(asked, place) and asked.name != "SYMLINK" and 280 < len(asked.fields[place]) < 1024 \
                     and all(len(part) < 256 for part in asked.fields[place].split(b"/")):
                 asked.fields[place] = b"/absent/absent"
-        return [asked]
 
 
 class large_read_fails(Refuses):
@@ -283,40 +274,36 @@ class set_needs_write(Refuses):
 class set_size_alone(Fault):
     """SETSTAT and FSETSTAT of a size and more set the size alone."""
 
-    def ask(self, asked):
+    def alter(self, asked):
         if sets_size(asked):
             asked.fields[1] = {"size": asked.fields[1]["size"]}
-        return [asked]
 
 
 class set_of_open_lost(Meets):
     """SETSTAT of the permissions of a file that is open by the path is told done, and is not."""
 
-    def ask(self, asked):
+    def alter(self, asked):
         if asked.name == "SETSTAT" and self.numbers_at(asked.fields[0]):
             asked.fields[1].pop("permissions", None)
-        return [asked]
 
 
 class size_of_open_lost(Meets):
     """SETSTAT of the size of a file that is open by the path is told done, and is not."""
 
-    def ask(self, asked):
+    def alter(self, asked):
         if asked.name == "SETSTAT" and sets_size(asked) and self.numbers_at(asked.fields[0]):
             asked.fields[1].pop("size")
-        return [asked]
 
 
 class set_id_lost(Fault):
     """SETSTAT of permissions leaves out those to be run as the file's user and group."""
 
-    def ask(self, asked):
+    def alter(self, asked):
         if asked.name == "SETSTAT" and "permissions" in asked.fields[1]:
             asked.fields[1]["permissions"] &= ~0o6000
-        return [asked]
 
 
-class further_name_set_apart(Meets):
+class further_name_set_apart(Meets, Attributes):
     """What HARDLINK made shows the permissions of that time, whatever SETSTAT sets by the old name."""
 
     def __init__(self):
@@ -327,47 +314,39 @@ class further_name_set_apart(Meets):
         if asked.name == "HARDLINK":
             new = clean(asked.fields[1])
 
-            def known(packet):
-                given = attributes_of(packet)
+            def known(given):
                 if given:
                     self.shown[new] = given["permissions"]
-            return [self.question(known, "LSTAT", asked.fields[0]), asked]
-        if asked.name in ("REMOVE", "RENAME", "POSIX-RENAME", "OPEN", "SETSTAT"):
+            return [self.look(known, "LSTAT", asked.fields[0]), asked]
+        if asked.name in ("REMOVE", *MOVES, "OPEN", "SETSTAT"):
             for path in asked.fields[:2]:
                 self.shown.pop(clean(path) if isinstance(path, bytes) else None, None)
         return [asked]
 
-    def answer(self, asked, reply):
-        mode = self.shown.get(clean(asked.fields[0])) if asked.name in ("STAT", "LSTAT") else None
-        if mode is None or reply[4] != sftp3.ATTRS:
-            return [reply]
-        given = sftp3.Fields(reply[9:]).attributes()
-        return [sftp3.packet(sftp3.ATTRS, reply[5:9] + sftp3.attributes({**given, "permissions": mode}))]
+    def seen(self, asked, given):
+        mode = self.shown.get(clean(asked.fields[0])) if asked.name in LOOKS else None
+        return given if mode is None else {**given, "permissions": mode}
 
 
-class permissions_of_open_kept(Meets):
+class permissions_of_open_kept(Meets, Attributes):
     """FSTAT shows the permissions that the file had at OPEN, until they are set through the handle."""
 
     def ask(self, asked):
         if asked.name == "OPEN":
             opener = self.asked[asked.number]
 
-            def known(packet):
-                given = attributes_of(packet)
+            def known(given):
                 if given:
                     opener.mode = given["permissions"]
-            return [self.question(known, "STAT", asked.fields[0]), asked]
+            return [self.look(known, "STAT", asked.fields[0]), asked]
         opener = self.opened.get(asked.handle()) if asked.name == "FSETSTAT" else None
         if hasattr(opener, "mode") and self.flags(asked) & WRITE:
             del opener.mode
         return [asked]
 
-    def answer(self, asked, reply):
+    def seen(self, asked, given):
         mode = getattr(self.opened.get(asked.handle()), "mode", None) if asked.name == "FSTAT" else None
-        if mode is None or reply[4] != sftp3.ATTRS:
-            return [reply]
-        given = sftp3.Fields(reply[9:]).attributes()
-        return [sftp3.packet(sftp3.ATTRS, reply[5:9] + sftp3.attributes({**given, "permissions": mode}))]
+        return given if mode is None else {**given, "permissions": mode}
 
 
 class Removed(Meets):
@@ -449,7 +428,7 @@ class renamed_cannot_be_cut(Refuses):
         self.moved = set()
 
     def refuses(self, asked):
-        if asked.name in ("RENAME", "POSIX-RENAME"):
+        if asked.name in MOVES:
             self.moved |= self.numbers_at(asked.fields[0])
         return sets_size(asked) and self.opener_number(asked) in self.moved
 
@@ -462,7 +441,7 @@ class renamed_cannot_be_removed(Refuses):
         self.names = {}
 
     def refuses(self, asked):
-        if asked.name in ("RENAME", "POSIX-RENAME"):
+        if asked.name in MOVES:
             self.names.update((number, clean(asked.fields[1])) for number in self.numbers_at(asked.fields[0]))
         still = {self.names.get(opener.number) for opener in self.openers()}
         return asked.name == "REMOVE" and clean(asked.fields[0]) in still
@@ -475,22 +454,21 @@ class end_stays(Meets):
         super().__init__()
         self.ends = {}
 
-    def ask(self, asked):
+    def alter(self, asked):
         if asked.name in ("WRITE", "FSETSTAT"):
             self.ends.pop(self.opener_number(asked), None)
-        return [asked]
 
     def answer(self, asked, reply):
         number = self.opener_number(asked) if asked.name == "READ" else None
         if number is None or self.flags(asked) != READ:
             return [reply]
-        if reply[4] == sftp3.STATUS and sftp3.Reply(reply).code == sftp3.EOF:
+        if sftp3.Reply(reply).code == sftp3.EOF:
             self.ends[number] = min(asked.fields[1], self.ends.get(number, FAR))
         ended = asked.fields[1] >= self.ends.get(number, 2 ** 64)
         return [status(reply, END) if ended else reply]
 
 
-class size_of_log_stays(Meets):
+class size_of_log_stays(Meets, Attributes):
     """STAT of a file that is open with APPEND shows the size that it had at OPEN."""
 
     def ask(self, asked):
@@ -498,18 +476,15 @@ class size_of_log_stays(Meets):
             opener = self.asked[asked.number]
             opener.size = 0
 
-            def known(packet):
-                opener.size = (attributes_of(packet) or {"size": 0})["size"]
-            return [self.question(known, "STAT", asked.fields[0]), asked]
+            def known(given):
+                opener.size = (given or {"size": 0})["size"]
+            return [self.look(known, "STAT", asked.fields[0]), asked]
         return [asked]
 
-    def answer(self, asked, reply):
+    def seen(self, asked, given):
         sizes = [opener.size for opener in self.openers() if asked.name == "STAT" and hasattr(opener, "size")
                  and clean(opener.fields[0]) == clean(asked.fields[0])]
-        if not sizes or reply[4] != sftp3.ATTRS:
-            return [reply]
-        given = sftp3.Fields(reply[9:]).attributes()
-        return [sftp3.packet(sftp3.ATTRS, reply[5:9] + sftp3.attributes({**given, "size": sizes[0]}))]
+        return {**given, "size": sizes[0]} if sizes else given
 
 
 class Targets(Fault):
@@ -518,24 +493,24 @@ class Targets(Fault):
     def answer(self, asked, reply):
         if asked.name != "READLINK" or reply[4] != sftp3.NAME:
             return [reply]
-        target = self.target(names_of(reply)[0][0])
+        target = self.target(asked, names_of(reply)[0][0])
         return [with_names(reply, [(target, target, {})])]
 
-    def target(self, target):
+    def target(self, _asked, target):
         return target
 
 
 class target_cut(Targets):
     """READLINK gives at most 255 bytes."""
 
-    def target(self, target):
+    def target(self, _asked, target):
         return target[:255]
 
 
 class target_not_ascii(Targets):
     """READLINK gives `?` for a byte above 127 of a target of more than ten bytes."""
 
-    def target(self, target):
+    def target(self, _asked, target):
         return bytes(63 if byte > 127 and len(target) > 10 else byte for byte in target)
 
 
@@ -546,15 +521,13 @@ class link_to_link_leads_nowhere(Fault):
         super().__init__()
         self.links, self.chains = set(), set()
 
-    def ask(self, asked):
+    def alter(self, asked):
         if asked.name == "SYMLINK":
-            target, link = asked.fields
-            aim = clean(posixpath.join(posixpath.dirname(clean(link)), target))
-            self.links.add(clean(link))
-            self.chains |= {clean(link)} if aim in self.links and aim != clean(link) else set()
+            link, aim = clean(asked.fields[1]), aim_of(asked)
+            self.links.add(link)
+            self.chains |= {link} if aim in self.links and aim != link else set()
         if asked.name in ("STAT", "OPEN", "OPENDIR") and clean(asked.fields[0]) in self.chains:
             asked.fields[0] = b"/absent/absent"
-        return [asked]
 
 
 class link_again_fails(Refuses):
@@ -565,7 +538,7 @@ class link_again_fails(Refuses):
         self.gone = set()
 
     def refuses(self, asked):
-        if asked.name in ("REMOVE", "RMDIR", "RENAME", "POSIX-RENAME"):
+        if asked.name in ("REMOVE", "RMDIR", *MOVES):
             self.gone.add(clean(asked.fields[0]))
         return asked.name == "SYMLINK" and clean(asked.fields[1]) in self.gone
 
@@ -606,10 +579,9 @@ class removed_is_listed_while_open(Meets, Listings):
         super().__init__()
         self.gone = {}
 
-    def ask(self, asked):
+    def alter(self, asked):
         if asked.name == "REMOVE":
             self.gone.update((number, clean(asked.fields[0])) for number in self.numbers_at(asked.fields[0]))
-        return [asked]
 
     def listed(self, asked, before, items):
         names, top = {item[0] for item in items}, clean(self.path(asked) or b"/")
@@ -652,11 +624,10 @@ class kind_cannot_be_made(Refuses):
 class large_owner_cut(Fault):
     """The numbers of users and groups that are set are taken modulo 65,536."""
 
-    def ask(self, asked):
-        given = asked.fields[1] if asked.name in ("SETSTAT", "FSETSTAT") else {}
+    def alter(self, asked):
+        given = asked.fields[1] if asked.name in SETS else {}
         if "owner" in given:
             given["owner"] = tuple(number % 65536 for number in given["owner"])
-        return [asked]
 
 
 class id_of_zero_fails(Refuses):
@@ -677,10 +648,5 @@ class failure_in_much_flight(InFlight):
     """With 40 or more requests unanswered, OK is told as FAILURE."""
 
     def answer_in_flight(self, _asked, reply, count):
-        done = reply[4] == sftp3.STATUS and sftp3.Reply(reply).code == sftp3.OK
+        done = sftp3.Reply(reply).code == sftp3.OK
         return [status(reply, FAILED) if done and count >= 40 else reply]
-
-
-FAULTS = [fault for fault in list(globals().values())
-          if isinstance(fault, type) and issubclass(fault, Fault) and fault not in (
-              Fault, Further, InFlight, Listings, Meets, Refuses, Removed, Targets)]

@@ -2,7 +2,7 @@
 import re
 
 import sftp3
-from probing.faulty import FAILED, Fault, Listings, Statuses, is_path, status
+from probing.faulty import FAILED, MOVES, Fault, Listings, is_path, refused, status
 
 
 class name_lost_by_count(Listings):
@@ -113,10 +113,9 @@ class renamed_listed_as_before(Listings):
         super().__init__()
         self.moved, self.old = [], {}
 
-    def ask(self, asked):
-        if asked.name in ("RENAME", "POSIX-RENAME"):
+    def alter(self, asked):
+        if asked.name in MOVES:
             self.moved.append((asked.number, asked.fields))
-        return [asked]
 
     def answer(self, asked, reply):
         for number, (old, new) in self.moved:
@@ -138,11 +137,10 @@ class removed_is_listed(Listings):
         super().__init__()
         self.gone = {}
 
-    def ask(self, asked):
+    def alter(self, asked):
         if asked.name == "REMOVE":
             folder, _, name = asked.fields[0].rpartition(b"/")
             self.gone[folder] = name
-        return [asked]
 
     def listed(self, asked, before, items):
         name = self.gone.get((self.path(asked) or b"").rstrip(b"/"))
@@ -163,23 +161,19 @@ class empty_listing_fails(Fault):
         if reply[4] == sftp3.NAME:
             self.full.add(number)
         fails = number not in self.full and sftp3.Reply(reply).code == sftp3.EOF
-        return [status(reply, b"\0\0\0\4") if fails else reply]
+        return [status(reply, FAILED) if fails else reply]
 
 
-class many_names_cannot_be_made(Statuses):
+class many_names_cannot_be_made(Fault):
     """MKDIR and SYMLINK fail, and do nothing, behind 900 that were done."""
 
     def __init__(self):
         super().__init__()
-        self.made, self.lost = 0, set()
+        self.made = 0
 
     def ask(self, asked):
-        if asked.name in ("MKDIR", "SYMLINK"):
-            self.made += 1
-            if self.made > 900:
-                self.lost.add(asked.number)
-                return [sftp3.Request(asked.number, "MKDIR", [b"/", {}])]
-        return [asked]
+        self.made += asked.name in ("MKDIR", "SYMLINK")
+        return refused(asked) if asked.name in ("MKDIR", "SYMLINK") and self.made > 900 else [asked]
 
 
 class Links(Fault):
@@ -246,34 +240,31 @@ class removed_link_empties_file(Links):
 class deep_path_fails(Fault):
     """A path of more than 20 names leads nowhere."""
 
-    def ask(self, asked):
+    def alter(self, asked):
         for place, value in enumerate(asked.fields):
             if asked.name not in ("WRITE", "EXTENDED") and isinstance(value, bytes) and value.count(b"/") > 20 \
                     and len(value) < 4096 and asked.handle() is None:
                 asked.fields[place] = b"/absent/absent"
-        return [asked]
 
 
 class long_name_fails(Fault):
     """A name of more than 250 bytes is cut there."""
 
-    def ask(self, asked):
+    def alter(self, asked):
         for place, value in enumerate(asked.fields):
             if asked.name not in ("WRITE", "EXTENDED") and isinstance(value, bytes) and asked.handle() is None:
                 parts = value.split(b"/")
                 asked.fields[place] = b"/".join(part[:250] if len(part) < 256 else part for part in parts)
-        return [asked]
 
 
 class Spelled(Fault):
     """Takes the names in paths for others."""
 
-    def ask(self, asked):
+    def alter(self, asked):
         for place in range(len(asked.fields)):
             if is_path(asked, place) and not (asked.name == "SYMLINK" and place == 0):
                 parts = asked.fields[place].split(b"/")
                 asked.fields[place] = b"/".join(it if it in (b"", b".", b"..") else self.name(it) for it in parts)
-        return [asked]
 
     def name(self, name):
         return name
@@ -327,8 +318,3 @@ class carriage_return_lost(Spelled):
 
     def name(self, name):
         return name.replace(b"\r", b"") or name
-
-
-FAULTS = [fault for fault in list(globals().values())
-          if isinstance(fault, type) and issubclass(fault, Fault)
-          and fault not in (Fault, Links, Listings, Spelled, Statuses)]

@@ -3,10 +3,7 @@ and requests whose bytes come apart."""
 import posixpath
 
 import sftp3
-from probing.faulty import Fault, Overtaking, clean, refused, sets_size
-
-MOVES = ("RENAME", "POSIX-RENAME")
-LOOKS = ("STAT", "LSTAT")
+from probing.faulty import LOOKS, MOVES, Fault, Overtaking, clean, refused, sets_size
 
 
 class Pair(Overtaking):
@@ -166,16 +163,13 @@ class making_overtakes_removal(OldPlace):
     FIRST, SECOND = ("RMDIR",), ("MKDIR",)
 
 
-class further_rename_overtakes(Pair):
+class further_rename_overtakes(AtNewPlace):
     """A RENAME is done before the RENAME that came just before it, if it takes something from where that put it."""
 
     FIRST = SECOND = MOVES
 
-    def meet(self, first, second):
-        return clean(first.fields[1]) == clean(second.fields[0])
 
-
-class replacing_overtakes_open(AtNewPlace):
+class replacing_overtakes_open(Pair):
     """A posix-rename to a path is done before an OPEN of the path that came just before it."""
 
     FIRST, SECOND = ("OPEN",), ("POSIX-RENAME",)
@@ -237,8 +231,3 @@ class head_apart_fails(Apart):
 
     def meant(self, count):
         return 4 <= count < 9
-
-
-FAULTS = [fault for fault in list(globals().values())
-          if isinstance(fault, type) and issubclass(fault, Fault) and fault not in (
-              Apart, AtNewPlace, Fault, OfOneFile, OldPlace, Overtaking, Pair)]

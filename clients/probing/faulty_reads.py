@@ -1,6 +1,6 @@
 """Faults of servers in what is read: corruption, cuts, early and late ends, what was read before."""
 import sftp3
-from probing.faulty import Fault, Reads, status, OK_STATUS, with_data
+from probing.faulty import FAR, MOVES, OK_STATUS, Reads, status, with_data
 
 KIB = 1024
 
@@ -74,22 +74,20 @@ class read_ends_below_renamed(Reads):
         super().__init__()
         self.moved = set()
 
-    def ask(self, asked):
-        if asked.name in ("RENAME", "POSIX-RENAME"):
+    def alter(self, asked):
+        if asked.name in MOVES:
             self.moved |= {opener.number for opener in list(self.opened.values())
                            if opener.fields[0].startswith(asked.fields[0] + b"/")}
-        return [asked]
 
     def shown(self, asked, _offset, data):
-        opener = self.opened.get(asked.handle())
-        return None if opener is not None and opener.number in self.moved else data
+        return None if self.opener_number(asked) in self.moved else data
 
 
 class read_behind_end(Reads):
     """A READ at an offset from 1,000 on that is behind the end gives a byte of 0."""
 
     def at_end(self, asked, reply):
-        ended = sftp3.Reply(reply).code == sftp3.EOF and 1000 <= asked.fields[1] < 2 ** 31
+        ended = sftp3.Reply(reply).code == sftp3.EOF and 1000 <= asked.fields[1] < FAR
         return with_data(reply, b"\0") if ended and asked.fields[2] else reply
 
 
@@ -112,10 +110,9 @@ class read_ok_at_end(Reads):
 class read_offset_wraps(Reads):
     """The offset of a READ is taken modulo 2^32."""
 
-    def ask(self, asked):
+    def alter(self, asked):
         if asked.name == "READ":
             asked.fields[1] %= 2 ** 32
-        return [asked]
 
 
 class read_stale(Reads):
@@ -148,11 +145,10 @@ class read_repeats_block(Reads):
 class read_of_other_handle(Reads):
     """With more than 30 handles open, a READ through the oldest file goes to the next."""
 
-    def ask(self, asked):
+    def alter(self, asked):
         files = [handle for handle, opener in list(self.opened.items()) if opener.name == "OPEN"]
         if asked.name == "READ" and len(files) > 30 and asked.handle() == files[0]:
             asked.fields[0] = files[1]
-        return [asked]
 
 
 class read_old_after_replacing(Reads):
@@ -162,10 +158,9 @@ class read_old_after_replacing(Reads):
         super().__init__()
         self.replaced = set()
 
-    def ask(self, asked):
+    def alter(self, asked):
         if asked.name == "POSIX-RENAME" and asked.fields[1] in self.lengths:
             self.replaced.add(asked.fields[1])
-        return [asked]
 
     def shown(self, asked, _offset, data):
         if self.path(asked) not in self.replaced:
@@ -181,14 +176,9 @@ class read_after_truncation(Reads):
         super().__init__()
         self.cut = set()
 
-    def ask(self, asked):
+    def alter(self, asked):
         if asked.name == "FSETSTAT" and "size" in asked.fields[1]:
             self.cut.add(self.path(asked))
-        return [asked]
 
     def shown(self, asked, _offset, data):
         return data[:-1] + b"\xff" if self.path(asked) in self.cut and len(data) > 10 else data
-
-
-FAULTS = [fault for fault in list(globals().values())
-          if isinstance(fault, type) and issubclass(fault, Fault) and fault not in (Fault, Reads)]

@@ -1,6 +1,7 @@
 """Faults of servers in attributes, codes and handles, and those that only requests in flight together show."""
 import sftp3
-from probing.faulty import FAILED, Attributes, Fault, InFlight, Overtaking, Statuses, data_of, status, with_data
+from probing.faulty import (
+    END, FAILED, FAR, LOOKS, MOVES, SETS, Attributes, Fault, InFlight, Overtaking, Statuses, data_of, status, with_data)
 
 
 class size_wraps(Attributes):
@@ -17,22 +18,19 @@ class size_of_large_file(Attributes):
         return {**given, "size": min(given["size"], 2 ** 20)}
 
 
-class size_after_truncation(Fault):
+class size_after_truncation(Attributes):
     """After SETSTAT or FSETSTAT of a size, the next STAT or FSTAT shows a byte more."""
 
     def __init__(self):
         super().__init__()
         self.cut = False
 
-    def ask(self, asked):
-        self.cut = self.cut or asked.name in ("SETSTAT", "FSETSTAT") and 0 < asked.fields[1].get("size", 0) < 2 ** 31
-        return [asked]
+    def alter(self, asked):
+        self.cut = self.cut or asked.name in SETS and 0 < asked.fields[1].get("size", 0) < FAR
 
-    def answer(self, asked, reply):
-        if reply[4] != sftp3.ATTRS or not self.cut:
-            return [reply]
-        self.cut, given = False, sftp3.Fields(reply[9:]).attributes()
-        return [sftp3.packet(sftp3.ATTRS, reply[5:9] + sftp3.attributes({**given, "size": given["size"] + 1}))]
+    def seen(self, _asked, given):
+        was_cut, self.cut = self.cut, False
+        return {**given, "size": given["size"] + 1} if was_cut else given
 
 
 class fstat_stale(Attributes):
@@ -54,7 +52,7 @@ class fstat_by_old_path(Fault):
         self.moved = set()
 
     def ask(self, asked):
-        if asked.name in ("RENAME", "POSIX-RENAME"):
+        if asked.name in MOVES:
             self.moved |= {opener.number for opener in list(self.opened.values())
                            if opener.fields[0] == asked.fields[self.WHICH]}
         opener = self.opened.get(asked.handle()) if asked.name == "FSTAT" else None
@@ -78,25 +76,23 @@ class size_not_until_close(Attributes):
     def seen(self, asked, given):
         fresh = any(opener.name == "OPEN" and opener.fields[0] == asked.fields[0] and opener.fields[1] & sftp3.TRUNC
                     for opener in list(self.opened.values()))
-        return {**given, "size": 0} if fresh and asked.name in ("STAT", "LSTAT") else given
+        return {**given, "size": 0} if fresh and asked.name in LOOKS else given
 
 
 class permissions_lost(Fault):
     """SETSTAT and FSETSTAT of permissions leave out the bit to execute for others."""
 
-    def ask(self, asked):
-        if asked.name in ("SETSTAT", "FSETSTAT") and "permissions" in asked.fields[1]:
+    def alter(self, asked):
+        if asked.name in SETS and "permissions" in asked.fields[1]:
             asked.fields[1]["permissions"] &= ~1
-        return [asked]
 
 
 class permissions_lost_with_times(Fault):
     """FSETSTAT of permissions together with times sets the times alone."""
 
-    def ask(self, asked):
+    def alter(self, asked):
         if asked.name == "FSETSTAT" and "times" in asked.fields[1]:
             asked.fields[1].pop("permissions", None)
-        return [asked]
 
 
 class permissions_after_replacing(Fault):
@@ -126,10 +122,9 @@ class link_is_file(Attributes):
 class large_write_fails(Fault):
     """A WRITE of more than 200,000 bytes fails, and is not done."""
 
-    def ask(self, asked):
+    def alter(self, asked):
         if asked.name == "WRITE" and len(asked.fields[2]) > 200000:
             asked.fields[2] = b""
-        return [asked]
 
     def answer(self, asked, reply):
         fails = asked.name == "WRITE" and len(asked.fields[2]) > 200000
@@ -140,7 +135,7 @@ class far_size_done(Statuses):
     """SETSTAT and FSETSTAT of 2^63 bytes or more are told done."""
 
     def code(self, asked, code):
-        far = asked.name in ("SETSTAT", "FSETSTAT") and asked.fields[1].get("size", 0) >= 2 ** 63
+        far = asked.name in SETS and asked.fields[1].get("size", 0) >= 2 ** 63
         return sftp3.OK if far else code
 
 
@@ -148,7 +143,7 @@ class absent_is_failure(Statuses):
     """STAT and LSTAT of what is not there are answered with FAILURE."""
 
     def code(self, asked, code):
-        return sftp3.FAILURE if asked.name in ("STAT", "LSTAT") and code == sftp3.NO_SUCH_FILE else code
+        return sftp3.FAILURE if asked.name in LOOKS and code == sftp3.NO_SUCH_FILE else code
 
 
 class remove_absent_done(Statuses):
@@ -180,29 +175,26 @@ class done_told_failed(Statuses):
 class excl_ignored(Fault):
     """OPEN passes over EXCL."""
 
-    def ask(self, asked):
+    def alter(self, asked):
         if asked.name == "OPEN" and asked.fields[1] & sftp3.CREAT:
             asked.fields[1] &= ~sftp3.EXCL
-        return [asked]
 
 
 class creat_needs_write(Fault):
     """OPEN to read alone passes over CREAT."""
 
-    def ask(self, asked):
+    def alter(self, asked):
         if asked.name == "OPEN" and asked.fields[1] == sftp3.READ | sftp3.CREAT:
             asked.fields[1] = sftp3.READ
-        return [asked]
 
 
 class owner_lost(Fault):
     """OPEN with TRUNC, by a path of three slashes or more, passes over the owner of a new file: some 4 of 300 sessions
     ask for it."""
 
-    def ask(self, asked):
+    def alter(self, asked):
         if asked.name == "OPEN" and asked.fields[1] & sftp3.TRUNC and asked.fields[0].count(b"/") >= 3:
             asked.fields[2].pop("owner", None)
-        return [asked]
 
 
 class remove_lost(Fault):
@@ -219,7 +211,7 @@ class rename_lost(Fault):
     """RENAME of a name of more than 30 bytes is told done, and is not."""
 
     def ask(self, asked):
-        if asked.name in ("RENAME", "POSIX-RENAME") and len(asked.fields[0].rpartition(b"/")[2]) > 30:
+        if asked.name in MOVES and len(asked.fields[0].rpartition(b"/")[2]) > 30:
             return [sftp3.Request(asked.number, "SETSTAT", [asked.fields[0], {}])]
         return [asked]
 
@@ -227,10 +219,9 @@ class rename_lost(Fault):
 class handles_run_out(Fault):
     """OPEN fails while 64 handles are open."""
 
-    def ask(self, asked):
+    def alter(self, asked):
         if asked.name == "OPEN" and len(self.opened) >= 64:
             asked.fields[:2] = [b"/", sftp3.READ]
-        return [asked]
 
 
 class handle_given_twice(Fault):
@@ -264,7 +255,7 @@ class closed_handle_works(Fault):
 
     def answer(self, asked, reply):
         closed = asked.name == "READ" and asked.handle() not in self.opened and reply[4] == sftp3.STATUS
-        return [status(reply, b"\0\0\0\1") if closed else reply]
+        return [status(reply, END) if closed else reply]
 
 
 class read_overtakes_write(Overtaking):
@@ -328,9 +319,9 @@ class failure_in_flight(InFlight):
     """With 15 or more requests unanswered, OK is told as FAILURE."""
 
     def answer_in_flight(self, _asked, reply, count):
-        if count < 15 or reply[4] != sftp3.STATUS or sftp3.Reply(reply).code != sftp3.OK:
+        if count < 15 or sftp3.Reply(reply).code != sftp3.OK:
             return [reply]
-        return [reply[:9] + b"\0\0\0\4" + reply[13:]]
+        return [reply[:9] + FAILED + reply[13:]]
 
 
 class reply_twice_in_flight(InFlight):
@@ -338,8 +329,3 @@ class reply_twice_in_flight(InFlight):
 
     def answer_in_flight(self, _asked, reply, count):
         return [reply] * (2 if count >= 10 and reply[4] == sftp3.DATA and len(reply) > 1000 else 1)
-
-
-FAULTS = [fault for fault in list(globals().values())
-          if isinstance(fault, type) and issubclass(fault, Fault) and fault not in (
-              Fault, Attributes, Statuses, InFlight, Overtaking)]

@@ -4,9 +4,10 @@ import posixpath
 
 import sftp3
 from probing.faulty import (
-    END, FAILED, FAR, OK_STATUS, Asks, Fault, Listings, Reads, Statuses, clean, names_of, refused, status, with_names)
-from probing.faulty_kept import APPEND, CREAT, EXCL, READ, WRITE
-from probing.faulty_meetings import Meets, Refuses
+    END, FAILED, FAR, LOOKS, OK_STATUS, Asks, Fault, Listings, Reads, Statuses, clean, names_of, refused, status,
+    with_names)
+from probing.faulty_meetings import Meets, Refuses, Targets
+from sftp3 import APPEND, CREAT, EXCL, READ, WRITE
 
 LINK, FILE, DIRECTORY, KIND = 0o120000, 0o100000, 0o040000, 0o170000
 
@@ -42,13 +43,12 @@ class listed_link_is_its_aim(Walks, Listings):
         # of the links that the session made to files, what those files showed then
         self.aims = {}
 
-    def ask(self, asked):
+    def alter(self, asked):
         if asked.name == "SYMLINK":
             target, link = asked.fields
             given = self.attributes_now("STAT", posixpath.join(posixpath.dirname(clean(link)), target))
             if given and given["permissions"] & KIND == FILE:
                 self.aims[clean(link)] = given
-        return [asked]
 
     def listed(self, asked, _before, items):
         folder = clean(self.path(asked) or b"/")
@@ -61,10 +61,9 @@ class listed_link_is_its_aim(Walks, Listings):
 class stat_of_dangling_shows_link(Walks):
     """STAT of a link that leads to nothing shows the link."""
 
-    def ask(self, asked):
+    def alter(self, asked):
         if asked.name == "STAT" and self.dangles(asked.fields[0]):
             asked.name = "LSTAT"
-        return [asked]
 
 
 class set_of_dangling_done(Walks):
@@ -83,11 +82,10 @@ class set_of_dangling_done(Walks):
 class rename_follows_link(Walks):
     """RENAME of a link to a file gives the file the new name."""
 
-    def ask(self, asked):
+    def alter(self, asked):
         if asked.name == "RENAME" and self.kind_now(asked.fields[0]) == LINK \
                 and self.kind_now(asked.fields[0], "STAT") == FILE:
             asked.fields[0] = self.aim(asked.fields[0])
-        return [asked]
 
 
 class remove_follows_link(Walks):
@@ -97,83 +95,70 @@ class remove_follows_link(Walks):
         super().__init__()
         self.made = set()
 
-    def ask(self, asked):
+    def alter(self, asked):
         if asked.name == "SYMLINK":
             self.made.add(clean(asked.fields[1]))
         if asked.name == "REMOVE" and clean(asked.fields[0]) in self.made \
                 and self.kind_now(asked.fields[0], "STAT") == FILE and self.kind_now(asked.fields[0]) == LINK:
             asked.fields[0] = self.aim(asked.fields[0])
-        return [asked]
 
 
-class target_made_absolute(Walks):
+class target_made_absolute(Targets):
     """READLINK gives an absolute path where the target is a relative one with `..` in it."""
 
-    def answer(self, asked, reply):
-        if asked.name != "READLINK" or reply[4] != sftp3.NAME:
-            return [reply]
-        target = names_of(reply)[0][0]
+    def target(self, asked, target):
         if target.startswith(b"/") or b".." not in target.split(b"/"):
-            return [reply]
-        whole = posixpath.normpath(posixpath.join(posixpath.dirname(clean(asked.fields[0])), target))
-        return [with_names(reply, [(whole, whole, {})])]
+            return target
+        return posixpath.normpath(posixpath.join(posixpath.dirname(clean(asked.fields[0])), target))
 
 
-class target_from_root(Walks):
+class target_from_root(Targets):
     """A relative target of a link in a directory leads from the root."""
 
     def __init__(self):
         super().__init__()
         self.given = {}
 
-    def ask(self, asked):
+    def alter(self, asked):
         if asked.name == "SYMLINK":
             target, link = asked.fields
             if target and not target.startswith((b"/", b".")) and b"/" in clean(link)[1:]:
                 self.given[b"/" + target] = target
                 asked.fields[0] = b"/" + target
-        return [asked]
 
-    def answer(self, asked, reply):
-        if asked.name != "READLINK" or reply[4] != sftp3.NAME:
-            return [reply]
-        target = names_of(reply)[0][0]
-        shown = self.given.get(target, target) if b"/" in clean(asked.fields[0])[1:] else target
-        return [with_names(reply, [(shown, shown, {})])]
+    def target(self, asked, target):
+        return self.given.get(target, target) if b"/" in clean(asked.fields[0])[1:] else target
 
 
 class path_by_text(Fault):
     """REALPATH takes `..` for the end of the name before it, also where that is a link."""
 
-    def ask(self, asked):
+    def alter(self, asked):
         if asked.name == "REALPATH" and asked.fields[0].startswith(b"/") and b"/../" in asked.fields[0] + b"/":
             asked.fields[0] = clean(asked.fields[0])
-        return [asked]
 
 
 class root_has_no_parent(Refuses):
     """An absolute path that begins with `/..` leads nowhere."""
 
     def refuses(self, asked):
-        return asked.name in ("STAT", "LSTAT", "OPEN", "OPENDIR") and asked.fields[0].startswith(b"/../")
+        return asked.name in (*LOOKS, "OPEN", "OPENDIR") and asked.fields[0].startswith(b"/../")
 
 
 class excl_makes_aim(Walks):
     """OPEN with CREAT and EXCL of a link that leads to nothing makes the file that it leads to."""
 
-    def ask(self, asked):
+    def alter(self, asked):
         if asked.name == "OPEN" and asked.fields[1] & EXCL and self.dangles(asked.fields[0]):
             asked.fields[1] &= ~EXCL
-        return [asked]
 
 
 class aim_is_made_directory(Walks):
     """MKDIR of a link that leads to nothing makes the directory that it leads to."""
 
-    def ask(self, asked):
+    def alter(self, asked):
         if asked.name == "MKDIR" and self.dangles(asked.fields[0]):
             asked.fields[0] = self.aim(asked.fields[0])
-        return [asked]
 
 
 class link_replaces_link(Walks):
@@ -198,11 +183,10 @@ class further_name_replaces(Walks):
 class further_name_of_open_is_copy(Walks, Meets):
     """HARDLINK of a file that is open to be written makes a copy."""
 
-    def ask(self, asked):
+    def alter(self, asked):
         if asked.name == "HARDLINK" and any(opener.fields[1] & WRITE for opener in self.openers()
                                             if clean(opener.fields[0]) == clean(asked.fields[0])):
             self.asked[asked.number].copies = True
-        return [asked]
 
     def requests(self, packets):
         for packet in packets:
@@ -224,30 +208,27 @@ class set_by_old_path(Meets):
 class owner_by_handle_lost(Fault):
     """FSETSTAT of an owner is told done, and is not."""
 
-    def ask(self, asked):
+    def alter(self, asked):
         if asked.name == "FSETSTAT":
             asked.fields[1].pop("owner", None)
-        return [asked]
 
 
 class group_lost(Walks):
     """SETSTAT of a file's owner sets the user alone."""
 
-    def ask(self, asked):
+    def alter(self, asked):
         if asked.name == "SETSTAT" and "owner" in asked.fields[1]:
             given = self.attributes_now("STAT", asked.fields[0])
             if given and given["permissions"] & KIND != DIRECTORY:
                 asked.fields[1]["owner"] = asked.fields[1]["owner"][0], given["owner"][1]
-        return [asked]
 
 
 class set_by_umask(Fault):
     """SETSTAT of permissions of a file does not give those to write to the group and others."""
 
-    def ask(self, asked):
+    def alter(self, asked):
         if asked.name == "SETSTAT" and "permissions" in asked.fields[1]:
             asked.fields[1]["permissions"] &= ~0o022
-        return [asked]
 
 
 class open_sets_what_is_there(Walks):
@@ -266,16 +247,15 @@ class append_stays(Fault):
 
     def __init__(self):
         super().__init__()
-        self.closed = False
+        self.was_appended_to = False
 
-    def ask(self, asked):
-        opened = getattr(self.asked[asked.number], "opened", None)
-        if asked.name == "CLOSE" and opened and opened.name == "OPEN":
-            self.closed = bool(opened.fields[1] & APPEND)
+    def alter(self, asked):
+        closed = self.closed(asked)
+        if closed and closed.name == "OPEN":
+            self.was_appended_to = bool(closed.fields[1] & APPEND)
         if asked.name == "OPEN" and asked.fields[1] & WRITE:
-            asked.fields[1] |= APPEND if self.closed else 0
-            self.closed = False
-        return [asked]
+            asked.fields[1] |= APPEND if self.was_appended_to else 0
+            self.was_appended_to = False
 
 
 class append_leaves_gap(Walks):
@@ -350,11 +330,10 @@ class file_is_listed(Walks):
         super().__init__()
         self.of_files = set()
 
-    def ask(self, asked):
+    def alter(self, asked):
         if asked.name == "OPENDIR" and self.kind_now(asked.fields[0], "STAT") == FILE:
             self.of_files.add(asked.number)
             asked.fields[0] = b"/"
-        return [asked]
 
     def answer(self, asked, reply):
         ends = asked.name == "READDIR" and self.opener_number(asked) in self.of_files and reply[4] == sftp3.NAME
@@ -373,10 +352,9 @@ class directory_is_opened(Walks):
 class handle_to_write_reads(Fault):
     """A READ through a handle that is open to write alone is done."""
 
-    def ask(self, asked):
+    def alter(self, asked):
         if asked.name == "OPEN" and asked.fields[1] & WRITE:
             asked.fields[1] |= READ
-        return [asked]
 
 
 class first_flags_hold(Meets):
@@ -396,8 +374,8 @@ class close_closes_file(Meets):
     """CLOSE of a handle of a file closes those that the same path opened behind it, too."""
 
     def ask(self, asked):
-        closed = getattr(self.asked[asked.number], "opened", None)
-        if asked.name != "CLOSE" or not closed or closed.name != "OPEN":
+        closed = self.closed(asked)
+        if not closed or closed.name != "OPEN":
             return [asked]
         others = [handle for handle, opener in list(self.opened.items())
                   if opener.name == "OPEN" and clean(opener.fields[0]) == clean(closed.fields[0])
@@ -413,14 +391,12 @@ class removed_comes_back(Walks, Meets):
         super().__init__()
         self.written = set()
 
-    def ask(self, asked):
+    def alter(self, asked):
         if asked.name == "WRITE" and self.path(asked) is not None:
             self.written.add(self.opener_number(asked))
-        closed = getattr(self.asked[asked.number], "opened", None)
-        if asked.name == "CLOSE" and closed and closed.number in self.written \
-                and self.kind_now(closed.fields[0]) is None:
+        closed = self.closed(asked)
+        if closed and closed.number in self.written and self.kind_now(closed.fields[0]) is None:
             self.now("CLOSE", sftp3.Reply(self.now("OPEN", closed.fields[0], WRITE | CREAT, {})).handle or b"")
-        return [asked]
 
 
 class close_restores_size(Asks):
@@ -430,18 +406,17 @@ class close_restores_size(Asks):
         super().__init__()
         self.ends = {}
 
-    def ask(self, asked):
+    def alter(self, asked):
         number = self.opener_number(asked)
         if asked.name == "WRITE" and number and asked.fields[1] < FAR and not self.flags(asked) & APPEND:
             given = {"size": 0} if number in self.ends else self.attributes_now("FSTAT", asked.fields[0])
             end = max(given["size"] if given else 0, asked.fields[1] + len(asked.fields[2]))
             self.ends[number] = max(self.ends.get(number, 0), end)
-        closed = getattr(self.asked[asked.number], "opened", None)
-        if asked.name == "CLOSE" and closed and closed.number in self.ends:
+        closed = self.closed(asked)
+        if closed and closed.number in self.ends:
             given = self.attributes_now("FSTAT", asked.fields[0])
             if given and given["size"] > self.ends[closed.number]:
                 self.now("FSETSTAT", asked.fields[0], {"size": self.ends[closed.number]})
-        return [asked]
 
 
 class read_of_nothing_ends(Reads):
@@ -516,6 +491,3 @@ class last_id_fails(Refuses):
 
     def refuses(self, asked):
         return asked.number == 0xFFFFFFFF
-
-
-FAULTS = [fault for name, fault in list(globals().items()) if isinstance(fault, type) and name.islower()]

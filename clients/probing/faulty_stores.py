@@ -3,10 +3,10 @@ than others: directories that are no more than names, names that are alike, copi
 import posixpath
 import unicodedata
 
-from probing.faulty import Asks, Fault, clean, is_path, refused
-from probing.faulty_kept import CREAT, MOVES, READ, is_below, paths_of
+from probing.faulty import MOVES, Asks, Fault, aim_of, clean, is_below, is_path, paths_of, refused
 from probing.faulty_meetings import Refuses
 from probing.faulty_names import Spelled
+from sftp3 import CREAT, READ
 
 
 class Made(Fault):
@@ -74,12 +74,11 @@ class inside_is_reset(Made):
 class open_file_moved_apart(Asks):
     """RENAME of a file that is open to be read makes a copy of it under the new name."""
 
-    def ask(self, asked):
+    def alter(self, asked):
         reading = {clean(opener.fields[0]) for opener in list(self.opened.values())
                    if opener.name == "OPEN" and opener.fields[1] == READ}
         if asked.name == "RENAME" and clean(asked.fields[0]) in reading:
             self.copy_now(clean(asked.fields[0]))
-        return [asked]
 
 
 class Alike(Fault):
@@ -89,12 +88,11 @@ class Alike(Fault):
         super().__init__()
         self.first = {}
 
-    def ask(self, asked):
+    def alter(self, asked):
         for place in range(len(asked.fields)):
             if is_path(asked, place) and not (asked.name == "SYMLINK" and place == 0):
                 parts = asked.fields[place].split(b"/")
                 asked.fields[place] = b"/".join(self.first.setdefault(self.form(part), part) for part in parts)
-        return [asked]
 
     def form(self, name):
         """What names that are alike have in common."""
@@ -168,11 +166,10 @@ class device_cannot_be_made(Refuses):
 class home_of_tilde(Fault):
     """A relative path that begins with `~` begins at the home directory behind that."""
 
-    def ask(self, asked):
+    def alter(self, asked):
         for place in range(min(2, len(asked.fields))):
             if is_path(asked, place) and asked.name != "SYMLINK" and asked.fields[place].startswith(b"~"):
                 asked.fields[place] = b"/" + asked.fields[place][1:].lstrip(b"/")
-        return [asked]
 
 
 class star_removes_all(Made):
@@ -192,13 +189,12 @@ class text_takes_link_away(Fault):
         super().__init__()
         self.links = set()
 
-    def ask(self, asked):
+    def alter(self, asked):
         if asked.name == "SYMLINK":
             self.links.add(clean(asked.fields[1]))
         for place in range(min(2, len(asked.fields))):
             if is_path(asked, place) and asked.name != "SYMLINK":
                 asked.fields[place] = self.without_links(asked.fields[place])
-        return [asked]
 
     def without_links(self, path):
         for link in self.links:
@@ -214,23 +210,20 @@ class long_chain_leads_nowhere(Fault):
         super().__init__()
         self.lengths_of = {}
 
-    def ask(self, asked):
+    def alter(self, asked):
         if asked.name == "SYMLINK":
-            target, link = asked.fields
-            aim = clean(posixpath.join(posixpath.dirname(clean(link)), target))
-            self.lengths_of[clean(link)] = self.lengths_of.get(aim, 0) + 1 if aim != clean(link) else 0
+            link, aim = clean(asked.fields[1]), aim_of(asked)
+            self.lengths_of[link] = self.lengths_of.get(aim, 0) + 1 if aim != link else 0
         if asked.name in ("STAT", "OPEN", "OPENDIR") and self.lengths_of.get(clean(asked.fields[0]), 0) > 8:
             asked.fields[0] = b"/absent/absent"
-        return [asked]
 
 
 class target_loses_slash(Fault):
     """SYMLINK leaves out slashes at the end of a target."""
 
-    def ask(self, asked):
+    def alter(self, asked):
         if asked.name == "SYMLINK":
             asked.fields[0] = asked.fields[0].rstrip(b"/") or asked.fields[0]
-        return [asked]
 
 
 class directory_of_link_removed(Made):
@@ -242,8 +235,7 @@ class directory_of_link_removed(Made):
 
     def of_made(self, asked):
         if asked.name == "SYMLINK":
-            target, link = asked.fields
-            self.aims[clean(link)] = clean(posixpath.join(posixpath.dirname(clean(link)), target))
+            self.aims[clean(asked.fields[1])] = aim_of(asked)
         aim = self.aims.get(clean(asked.fields[0])) if asked.name == "RMDIR" else None
         return [asked] + [self.another("RMDIR", aim)] * (aim is not None)
 
@@ -264,6 +256,3 @@ class full_directory_replaces_none(Made):
         old, new = paths_of(asked)
         full = any(is_below(path, old) for path in self.made)
         return refused(asked) if full and new in self.directories() and new != old else [asked]
-
-
-FAULTS = [fault for name, fault in list(globals().items()) if isinstance(fault, type) and name.islower()]

@@ -1,6 +1,6 @@
 """Faults of servers in the times of files and directories."""
 import sftp3
-from probing.faulty import Attributes, Fault, names_of, with_names
+from probing.faulty import SETS, Attributes, Fault, names_of, with_names
 
 # Another time, as a clock would have it.
 NOW = 1_800_000_001
@@ -13,7 +13,7 @@ class Timed(Fault):
 
 
 def sets_times(asked):
-    return asked.name in ("SETSTAT", "FSETSTAT") and "times" in asked.fields[1]
+    return asked.name in SETS and "times" in asked.fields[1]
 
 
 class times_lost(Timed):
@@ -21,10 +21,9 @@ class times_lost(Timed):
 
     NAME = "SETSTAT"
 
-    def ask(self, asked):
+    def alter(self, asked):
         if asked.name == self.NAME:
             asked.fields[1].pop("times", None)
-        return [asked]
 
 
 class times_lost_by_handle(times_lost):
@@ -40,39 +39,35 @@ class times_lost_of_directories(Timed):
         super().__init__()
         self.made = set()
 
-    def ask(self, asked):
+    def alter(self, asked):
         if asked.name == "MKDIR":
             self.made.add(asked.fields[0])
         if asked.name == "SETSTAT" and asked.fields[0] in self.made:
             asked.fields[1].pop("times", None)
-        return [asked]
 
 
 class times_lost_with_permissions(Timed):
     """SETSTAT and FSETSTAT of times together with permissions set the permissions alone."""
 
-    def ask(self, asked):
+    def alter(self, asked):
         if sets_times(asked) and "permissions" in asked.fields[1]:
             del asked.fields[1]["times"]
-        return [asked]
 
 
 class times_swapped(Timed):
     """SETSTAT and FSETSTAT take the time of access for that of modification, and the other way round."""
 
-    def ask(self, asked):
+    def alter(self, asked):
         if sets_times(asked):
             asked.fields[1]["times"] = asked.fields[1]["times"][::-1]
-        return [asked]
 
 
 class access_time_lost(Timed):
     """SETSTAT and FSETSTAT set both times to that of modification."""
 
-    def ask(self, asked):
+    def alter(self, asked):
         if sets_times(asked):
             asked.fields[1]["times"] = (asked.fields[1]["times"][1],) * 2
-        return [asked]
 
 
 class Touching(Timed):
@@ -150,10 +145,3 @@ class listed_times(Timed):
         items = [(name, long, {**given, "times": (given["times"][0],) * 2} if "times" in given else given)
                  for name, long, given in names_of(reply)]
         return [with_names(reply, items)]
-
-
-FAULTS = [
-    times_lost, times_lost_by_handle, times_lost_of_directories, times_lost_with_permissions, times_swapped,
-    access_time_lost, permissions_touch, rename_touches, read_touches, close_touches, times_in_another_zone,
-    fstat_times_stale, listed_times,
-]

@@ -1,7 +1,7 @@
 """Faults of servers in what is written: loss, corruption and cuts, by size, by offset, by count, at the end, after a
 rename, after a truncation. The text of each class says what the server does wrong."""
 import sftp3
-from probing.faulty import Fault, Writes
+from probing.faulty import FAR, MOVES, SETS, Fault, Writes
 
 KIB = 1024
 
@@ -23,6 +23,8 @@ class write_lost_by_offset(Writes):
 class write_lost_by_count(Writes):
     """The 16th WRITE through a handle is lost."""
 
+    COUNT = 16
+
     def __init__(self):
         super().__init__()
         self.counts = {}
@@ -30,7 +32,7 @@ class write_lost_by_count(Writes):
     def loses(self, asked, _offset, _data):
         number = self.opener_number(asked)
         self.counts[number] = self.counts.get(number, 0) + 1
-        return self.counts[number] == 16
+        return self.counts[number] == self.COUNT
 
 
 class write_lost_at_end(Writes):
@@ -84,14 +86,14 @@ class write_offset_wraps(Writes):
     """The offset of a WRITE is taken modulo 2^20."""
 
     def changed_write(self, offset, data):
-        return (offset % 2 ** 20, data) if offset < 2 ** 31 else (offset, data)
+        return (offset % 2 ** 20, data) if offset < FAR else (offset, data)
 
 
 class write_elsewhere(Writes):
     """A WRITE at an offset of 65,536 or more that is no multiple of 512 goes to the multiple before it."""
 
     def changed_write(self, offset, data):
-        return (offset - offset % 512, data) if 2 ** 16 <= offset < 2 ** 31 else (offset, data)
+        return (offset - offset % 512, data) if 2 ** 16 <= offset < FAR else (offset, data)
 
 
 class write_cuts_file(Writes):
@@ -113,13 +115,10 @@ class write_twice(Writes):
 class gap_with_garbage(Writes):
     """The byte before a WRITE behind the end of a new file is no 0."""
 
-    def changed_write(self, offset, data):
-        return offset, data
-
     def written(self, asked, handle, offset, data):
         fresh = self.flags(asked) & (sftp3.TRUNC | sftp3.EXCL)
         behind = self.lengths.get(self.path(asked), 0)
-        if not fresh or not data or not 0 < behind < offset < 2 ** 31:
+        if not fresh or not data or not 0 < behind < offset < FAR:
             return [asked]
         return [sftp3.Request(asked.number, "WRITE", [handle, offset - 1, b"g" + data])]
 
@@ -128,7 +127,7 @@ class empty_write_lengthens(Writes):
     """A WRITE of no bytes behind the end makes the file longer."""
 
     def written(self, asked, handle, offset, data):
-        if data or not self.lengths.get(self.path(asked), offset) < offset < 2 ** 31:
+        if data or not self.lengths.get(self.path(asked), offset) < offset < FAR:
             return [asked]
         return [sftp3.Request(asked.number, "FSETSTAT", [handle, {"size": offset}])]
 
@@ -140,14 +139,12 @@ class write_lost_after_rename(Writes):
         super().__init__()
         self.moved = set()
 
-    def ask(self, asked):
-        if asked.name in ("RENAME", "POSIX-RENAME"):
+    def alter(self, asked):
+        if asked.name in MOVES:
             self.moved |= {opener.number for opener in self.opened.values() if opener.fields[0] == asked.fields[0]}
-        return super().ask(asked)
 
     def loses(self, asked, _offset, _data):
-        opener = self.opened.get(asked.handle())
-        return opener is not None and opener.number in self.moved
+        return self.opener_number(asked) in self.moved
 
 
 class write_lost_after_truncation(Writes):
@@ -157,10 +154,9 @@ class write_lost_after_truncation(Writes):
         super().__init__()
         self.cut = set()
 
-    def ask(self, asked):
+    def alter(self, asked):
         if asked.name == "FSETSTAT" and "size" in asked.fields[1]:
             self.cut.add(asked.handle())
-        return super().ask(asked)
 
     def loses(self, asked, _offset, data):
         lost = asked.handle() in self.cut and bool(data)
@@ -248,10 +244,9 @@ class write_again_lost(Writes):
 class append_at_offset(Fault):
     """OPEN passes over APPEND: a WRITE goes to its offset."""
 
-    def ask(self, asked):
+    def alter(self, asked):
         if asked.name == "OPEN" and asked.fields[1] & sftp3.WRITE:
             asked.fields[1] &= ~sftp3.APPEND
-        return [asked]
 
 
 class append_lost(Writes):
@@ -264,28 +259,25 @@ class append_lost(Writes):
 class truncation_lost(Fault):
     """FSETSTAT of a size is told done, and is not."""
 
-    def ask(self, asked):
+    def alter(self, asked):
         if asked.name == "FSETSTAT":
-            asked.fields[1] = {key: value for key, value in asked.fields[1].items() if key != "size"}
-        return [asked]
+            asked.fields[1].pop("size", None)
 
 
 class truncation_lost_by_size(Fault):
     """SETSTAT and FSETSTAT of a size from 40,000 bytes on are told done, and are not."""
 
-    def ask(self, asked):
-        if asked.name in ("SETSTAT", "FSETSTAT") and 40000 <= asked.fields[1].get("size", 0) < 2 ** 31:
+    def alter(self, asked):
+        if asked.name in SETS and 40000 <= asked.fields[1].get("size", 0) < FAR:
             del asked.fields[1]["size"]
-        return [asked]
 
 
 class truncation_to_block(Fault):
     """SETSTAT and FSETSTAT of a size above 4,096 cut at the multiple of 4,096 before it."""
 
-    def ask(self, asked):
-        if asked.name in ("SETSTAT", "FSETSTAT") and 4096 < asked.fields[1].get("size", 0) < 2 ** 31:
+    def alter(self, asked):
+        if asked.name in SETS and 4096 < asked.fields[1].get("size", 0) < FAR:
             asked.fields[1]["size"] -= asked.fields[1]["size"] % 4096
-        return [asked]
 
 
 class lengthened_with_garbage(Fault):
@@ -295,7 +287,7 @@ class lengthened_with_garbage(Fault):
         if asked.name != "FSETSTAT" or not self.lengths.get(self.path(asked), 0):
             return [asked]
         size, length = asked.fields[1].get("size", 0), self.lengths[self.path(asked)]
-        if not 1000 <= length < size < 2 ** 31:
+        if not 1000 <= length < size < FAR:
             return [asked]
         return [asked, self.another("WRITE", asked.handle(), size - 1, b"g")]
 
@@ -303,10 +295,9 @@ class lengthened_with_garbage(Fault):
 class truncated_keeps_bytes(Fault):
     """OPEN with TRUNC does not empty a file that is open already or that has over 30,000 bytes written."""
 
-    def ask(self, asked):
+    def alter(self, asked):
         if asked.name == "OPEN" and asked.fields[1] & sftp3.TRUNC and self.lengths.get(asked.fields[0], 0) > 30000:
             asked.fields[1] &= ~sftp3.TRUNC
-        return [asked]
 
 
 class replaced_keeps_old(Fault):
@@ -337,7 +328,7 @@ class renamed_loses_tail(Fault):
     """A file of more than 262,144 bytes is cut there when it gets another name."""
 
     def ask(self, asked):
-        if asked.name in ("RENAME", "POSIX-RENAME") and self.lengths.get(asked.fields[0], 0) > 2 ** 18:
+        if asked.name in MOVES and self.lengths.get(asked.fields[0], 0) > 2 ** 18:
             return [self.another("SETSTAT", asked.fields[0], {"size": 2 ** 18}), asked]
         return [asked]
 
@@ -346,15 +337,8 @@ class close_loses_tail(Fault):
     """CLOSE of a file that was written through the handle cuts what lies behind 300,000 bytes."""
 
     def ask(self, asked):
-        opened = getattr(asked, "opened", None)
-        if asked.name != "CLOSE":
-            return [asked]
-        opened = self.asked[asked.number].opened
-        if opened is None or opened.name != "OPEN" or self.lengths.get(opened.fields[0], 0) <= 300000 \
-                or not opened.fields[1] & sftp3.WRITE:
+        closed = self.closed(asked)
+        if closed is None or closed.name != "OPEN" or self.lengths.get(closed.fields[0], 0) <= 300000 \
+                or not closed.fields[1] & sftp3.WRITE:
             return [asked]
         return [self.another("FSETSTAT", asked.fields[0], {"size": 300000}), asked]
-
-
-FAULTS = [fault for fault in list(globals().values())
-          if isinstance(fault, type) and issubclass(fault, Fault) and fault not in (Fault, Writes)]

@@ -1,4 +1,5 @@
 """Finds the program `sftpv3`: in the repository, where ./sftpv3 builds it, or installed, beside these modules."""
+import functools
 import os
 import subprocess
 import sys
@@ -26,6 +27,7 @@ def in_repository():
     return os.path.exists(os.path.join(TOP, ".ci", "build"))
 
 
+@functools.cache
 def program():
     """The program that SFTPV3 names, else the installed one, else the one that ./sftpv3 builds."""
     if "SFTPV3" in os.environ:

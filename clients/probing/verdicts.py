@@ -16,6 +16,12 @@ from recording import children
 PROFILE_OPTIONS = ["--profile", "--umask", "--new-owner", "--allow", "--except", "--symlink"]
 
 
+def profile_words(given):
+    """The options of a profile that a command line has, and their values."""
+    values = ((option, getattr(given, option[2:].replace("-", "_"))) for option in PROFILE_OPTIONS)
+    return [word for option, value in values if value is not None for word in (option, value)]
+
+
 # The most differences of a session that are told apart: each takes an audit more, and a session may have thousands.
 MOST_DIFFERENCES = 12
 

@@ -1,6 +1,6 @@
 """The trials of clients/test-record, by subject:
 
-steps     counts what holds and what does not; starts recorders, and waits for processes to end
+steps     starts recorders, and speaks to them
 stub      a server with few requests, which can behave badly at the end of a session
 ends      whatever ends first: client, server, a pipe, a signal
 failing   full disks, long packets, lack of memory, commands that cannot run, code of the user

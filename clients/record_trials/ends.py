@@ -6,11 +6,8 @@ import subprocess
 import time
 
 import sftp3
-from record_trials.steps import (INIT, STUB, close, ended, errors, gone, open_session, receive, request, stubs)
-
-# How long, in seconds, is waited for what takes a recorder one, however busy the machine is; what does not end, does
-# not end by then either.
-SOON = 100
+from record_trials.steps import INIT, RECORD, STUB, close, errors, open_session, receive, request, stubs
+from trials.processes import SOON, ended, wait_until
 
 
 def whole(room, name="t"):
@@ -20,14 +17,14 @@ def whole(room, name="t"):
     return data == sftp3.put_records(records), len(records)
 
 
-def all_ended(steps, name, room, process, statuses, seconds=SOON):
+def all_ended(steps, name, room, process, statuses):
     """Recorder and server have ended soon, with one of these statuses, and the transcript is whole."""
-    status = ended(process, seconds)
+    status = ended(process, SOON)
     steps.check(f"{name}: the recorder ends", status is not None, "it is still there")
     if status is not None:
         steps.check(f"{name}: its status is one of {statuses}", status in statuses, f"{status}: {errors(process)}")
         steps.check(f"{name}: no traceback", "Traceback" not in errors(process))
-    steps.check(f"{name}: the server ends", gone(room.folder, seconds), f"left: {stubs(room.folder)}")
+    steps.check(f"{name}: the server ends", wait_until(lambda: not stubs(room.folder)), f"left: {stubs(room.folder)}")
     is_whole, count = whole(room)
     steps.check(f"{name}: the transcript is whole", is_whole and count >= 2, f"{count} records")
 
@@ -147,7 +144,7 @@ def whole_sessions(steps, room):
     asked = INIT + b"".join(request(it, "READ", b"h", 0, 32768) for it in range(200))
     for name, words, requests, size in (("200 READs", (), asked, 9 + 200 * (13 + 32768)),
                                         ("a late reply", ("late",), INIT + request(1, "STAT", b"/"), 9 + 21)):
-        ran = subprocess.run([room_record(), "--overwrite", "t", STUB, *words], input=requests,
+        ran = subprocess.run([RECORD, "--overwrite", "t", STUB, *words], input=requests,
                              stdout=subprocess.PIPE, stderr=subprocess.PIPE, cwd=room.folder, timeout=SOON)
         steps.check(f"{name}: all is answered after the end of the input", len(ran.stdout) == size,
                     f"{len(ran.stdout)} bytes, status {ran.returncode}: {ran.stderr}")
@@ -191,11 +188,6 @@ def sending_servers(steps, room):
             is_over = ends_soon(room, words, options, asked, is_there)
             steps.check(f"a server that {' and '.join(words)}, a client that {'reads on' if is_there else 'is gone'}: "
                         "it ends after --grace", is_over, "it goes on")
-
-
-def room_record():
-    from record_trials.steps import RECORD
-    return RECORD
 
 
 def slow_client(steps, room):

@@ -6,8 +6,9 @@ import subprocess
 import time
 
 import sftp3
-from record_trials.ends import SOON, whole
-from record_trials.steps import INIT, RECORD, STUB, ended, errors, open_session, request
+from record_trials.ends import whole
+from record_trials.steps import INIT, RECORD, STUB, errors, open_session, request
+from trials.processes import SOON, ended, executable
 
 
 def run(room, *words, data=b"", **options):
@@ -230,8 +231,7 @@ def foreign_code(steps, room):
     (home / "start.py").write_text(f"open({str(room.folder / 'ran')!r}, 'a').write('start')\n")
     environment = {**os.environ, "HOME": str(home), "PYTHONPATH": str(home), "PYTHONSTARTUP": str(home / "start.py"),
                    "PYTHONUSERBASE": str(home / ".local"), "PATH": f"{home}:{os.environ['PATH']}"}
-    (home / "python3").write_text(f"#!/bin/sh\necho path >> '{room.folder / 'ran'}'\n")
-    (home / "python3").chmod(0o755)
+    executable(home / "python3", f"#!/bin/sh\necho path >> '{room.folder / 'ran'}'\n")
     ran = subprocess.run([RECORD, room.folder / "t", "/bin/cat"], input=INIT, stdout=subprocess.PIPE,
                          stderr=subprocess.PIPE, cwd=home, env=environment)
     found = (room.folder / "ran").read_text() if (room.folder / "ran").exists() else ""

@@ -6,13 +6,13 @@ import socket
 import struct
 import subprocess
 import time
-from pathlib import Path
 
-from record_trials.ends import SOON, whole
+from record_trials.ends import whole
 from record_trials.failing import limited, run
-from record_trials.steps import INIT, PROGRAM, close, ended, errors, open_session, receive, request
+from record_trials.steps import INIT, PROGRAM, STUB, close, errors, open_session, receive, request
 from recording import naming
 from recording.options import AUDIT_FLAGS, AUDIT_VALUES, audit_words, plainly_read
+from trials.processes import SOON, ended, executable, wait_until
 
 LINE = "audit: refused record 8: UnknownReply"
 
@@ -34,11 +34,15 @@ def log(room):
     return (room.folder / "log").read_text() if (room.folder / "log").exists() else ""
 
 
+def make_three(process):
+    """Asks for three directories, one after the other. The reply to the last can be a wrong one."""
+    for number, name in ((1, b"/a"), (2, b"/b"), (3, b"/c")):
+        process.stdin.write(request(number, "MKDIR", name, {}))
+        receive(process, 21)
+
+
 def says_soon(room, text):
-    end = time.monotonic() + SOON
-    while text not in log(room) and time.monotonic() < end:
-        time.sleep(0.02)
-    return text in log(room)
+    return wait_until(lambda: text in log(room))
 
 
 def wrong_replies(steps, room):
@@ -63,9 +67,7 @@ def wrong_replies(steps, room):
 def stopped(steps, room):
     process = audited(room, "wrong", options=["--stop"])
     open_session(process)
-    for number, name in ((1, b"/a"), (2, b"/b"), (3, b"/c")):
-        process.stdin.write(request(number, "MKDIR", name, {}))
-        receive(process, 21)
+    make_three(process)
     steps.check("--stop: the session is cut, with status 1", ended(process, SOON) == 1, str(process.poll()))
     steps.check("--stop: the client sees the end", receive(process, 1) == b"")
     steps.check("--stop: the transcript is whole", whole(room)[0])
@@ -90,8 +92,7 @@ def bad_auditors(steps, room):
                              ("never reads", "sleep 1000", "did not end"), ("has a bad tree", None, "ended with")):
         program = room.folder / "auditor"
         if text:
-            program.write_text(f"#!/bin/sh\n{text}\n")
-            program.chmod(0o755)
+            executable(program, f"#!/bin/sh\n{text}\n")
         else:
             (room.folder / "blank.tree").write_text("no tree")
         process = audited(room, options=["--stop"], program=program if text else PROGRAM)
@@ -113,14 +114,11 @@ def bad_auditors(steps, room):
 
 def behind(steps, room):
     """40 MB pass an auditor that does not read: the session is as quick, and a line says that the audit fell behind."""
-    program = room.folder / "auditor"
-    program.write_text("#!/bin/sh\nsleep 1000\n")
-    program.chmod(0o755)
+    program = executable(room.folder / "auditor", "#!/bin/sh\nsleep 1000\n")
     (room.folder / "blank.tree").touch()
     asked = INIT + b"".join(request(it, "READ", b"h", 0, 32768) for it in range(1200))
     start = time.monotonic()
-    ran = run(room, "--audit", "--program", program, "--tree", "blank.tree", "t",
-              os.fspath(Path(__file__).with_name("stub.py")), data=asked)
+    ran = run(room, "--audit", "--program", program, "--tree", "blank.tree", "t", STUB, data=asked)
     steps.check("an auditor that is behind: the client gets all", len(ran.stdout) == 9 + 1200 * (13 + 32768))
     steps.check("an auditor that is behind: a line says so", b"fell behind" in ran.stderr, str(ran.stderr))
     steps.check("an auditor that is behind: the session is not held up", time.monotonic() - start < SOON)
@@ -136,9 +134,7 @@ def system_log(steps, room):
         try:
             process = audited(room, "wrong", options=["--syslog"])
             open_session(process)
-            for number, name in ((1, b"/a"), (2, b"/b"), (3, b"/c")):
-                process.stdin.write(request(number, "MKDIR", name, {}))
-                receive(process, 21)
+            make_three(process)
             listener.settimeout(SOON)
             said = ""
             while "sftpv3-record" not in said:
@@ -152,9 +148,7 @@ def system_log(steps, room):
 def logs(steps, room):
     process = audited(room, "wrong")
     open_session(process)
-    for number, name in ((1, b"/a"), (2, b"/b"), (3, b"/c")):
-        process.stdin.write(request(number, "MKDIR", name, {}))
-        receive(process, 21)
+    make_three(process)
     says_soon(room, LINE)
     lines = log(room).splitlines()
     steps.check("--log: a line has date, process, user, address and transcript", len(lines) == 1 and
@@ -175,9 +169,7 @@ def lost_records(steps, room):
     """A transcript that cannot be written any more is no fault of the server: the audit reads on without it."""
     process = audited(room, "wrong", options=["--stop"], preexec_fn=limited(resource.RLIMIT_FSIZE, 60))
     open_session(process)
-    for number, name in ((1, b"/a"), (2, b"/b"), (3, b"/c")):
-        process.stdin.write(request(number, "MKDIR", name, {}))
-        receive(process, 21)
+    make_three(process)
     steps.check("a lost record: the audit goes on, and finds the wrong reply", ended(process, SOON) == 1,
                 str(process.poll()))
     said = errors(process)
@@ -204,9 +196,7 @@ def full_logs(steps, room):
     (room.folder / "log").write_bytes(bytes(1000))
     process = audited(room, "wrong", preexec_fn=limited(resource.RLIMIT_FSIZE, 1010))
     open_session(process)
-    for number, name in ((1, b"/a"), (2, b"/b"), (3, b"/c")):
-        process.stdin.write(request(number, "MKDIR", name, {}))
-        receive(process, 21)
+    make_three(process)
     time.sleep(0.5)
     close(process.stdin)
     steps.check("a full log: the session goes on", ended(process, SOON) == 0, str(process.poll()))

@@ -6,11 +6,11 @@ import stat
 import subprocess
 import time
 
-from record_trials.ends import SOON
 from record_trials.failing import run
-from record_trials.steps import INIT, RECORD, STUB, close, ended, open_session, request
+from record_trials.steps import INIT, RECORD, STUB, close, open_session, request
 from recording.options import plainly_read
 from recording.parsers import record_parser
+from trials.processes import SOON, ended
 
 
 def names(steps, room):

@@ -10,19 +10,11 @@ import time
 from pathlib import Path
 
 import sftp3
-from record_trials.ends import SOON
-from record_trials.steps import (INIT, STUB, TOP, close, ended, errors, make_user, open_session, receive, remove_user,
-                                 request)
+from record_trials.steps import INIT, STUB, TOP, close, errors, open_session, receive, request
+from trials.processes import SOON, ended, executable, make_user, remove_user, wait_until
 
 DAEMON = os.environ.get("RECORDD", str(TOP / "clients/recordd"))
 OTHER = "sftpv3-trial"
-
-
-def wait_for(path):
-    """Waits until this is there, or too long."""
-    end = time.monotonic() + SOON
-    while not path.exists() and time.monotonic() < end:
-        time.sleep(0.02)
 
 
 class Spool:
@@ -36,7 +28,7 @@ class Spool:
         self.daemon = subprocess.Popen([DAEMON, *map(str, options), "--socket", self.socket, self.folder],
                                        stderr=subprocess.PIPE)
         room.started.append(self.daemon)
-        wait_for(self.socket)
+        wait_until(self.socket.exists)
 
     def end(self):
         self.daemon.send_signal(signal.SIGTERM)
@@ -127,10 +119,7 @@ def begun_and_left(steps, room):
             link.sendall(b"SFTPSP01\0")
             begun = link.recv(8)
     steps.check("a recorder that begins a record may do so again, where the last was left empty", begun == bytes(8))
-    end = time.monotonic() + SOON
-    while spool.records() and time.monotonic() < end:
-        time.sleep(0.05)
-    steps.check("a record that was begun and left is none", not spool.records(), spool.records())
+    steps.check("a record that was begun and left is none", wait_until(lambda: not spool.records()), spool.records())
     process = spool.session()
     open_session(process)
     close(process.stdin)
@@ -215,7 +204,7 @@ def activated(steps, room):
         steps.skip("socket activation", "systemd-socket-activate is not installed")
         return
     room.started.append(daemon)
-    wait_for(path)
+    wait_until(path.exists)
     process = room.start("--required", "--spool", path, STUB)
     steps.check("with socket activation: the session runs", len(open_session(process)) == 9)
     close(process.stdin)
@@ -253,8 +242,7 @@ def units(steps, room):
         steps.skip("the units of systemd", "systemd-analyze is not installed")
         return
     for name in ("sftpv3-recordd", "sftpv3-nightly"):
-        (room.folder / name).write_text("#!/bin/sh\n")
-        (room.folder / name).chmod(0o755)
+        executable(room.folder / name, "#!/bin/sh\n")
     made = []
     for unit in sorted((TOP / "packaging").glob("*.*")):
         if unit.suffix in (".service", ".socket", ".timer"):

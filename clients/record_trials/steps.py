@@ -1,15 +1,15 @@
-"""Starts recorders, and waits for processes to end."""
+"""Starts recorders, and speaks to them."""
 import os
 import subprocess
 import sys
 import tempfile
-import time
 from pathlib import Path
 
 TOP = Path(__file__).resolve().parents[2]
 sys.path.insert(0, str(TOP / "clients"))
 import sftp3
 from recording import temporary
+from trials import sessions
 
 RECORD = os.environ.get("RECORD", str(TOP / "clients/record"))
 STUB = str(TOP / "clients/record_trials/stub.py")
@@ -55,36 +55,11 @@ class Room:
         return (self.folder / name).read_bytes()
 
 
-def make_user(name):
-    """Makes a user for a trial. Another program may hold the lock of the list of users for a moment."""
-    words = ["useradd", "--create-home", "--password", "*", "--shell", "/bin/sh", name]
-    for _ in range(20):
-        if subprocess.run(words, stderr=subprocess.DEVNULL).returncode == 0:
-            return
-        time.sleep(0.5)
-    subprocess.run(words, check=True)
-
-
-def remove_user(name):
-    for _ in range(20):
-        if subprocess.run(["userdel", "--remove", name], stderr=subprocess.DEVNULL).returncode == 0:
-            return
-        time.sleep(0.5)
-
-
 def close(pipe):
     try:
         pipe.close()
     except OSError:
         pass
-
-
-def ended(process, seconds):
-    """The status of the process, or None if it has not ended after so many seconds."""
-    try:
-        return process.wait(seconds)
-    except subprocess.TimeoutExpired:
-        return None
 
 
 def stubs(folder):
@@ -100,25 +75,9 @@ def stubs(folder):
     return found
 
 
-def gone(folder, seconds):
-    """Whether no stub is left in this folder after at most so many seconds."""
-    end = time.monotonic() + seconds
-    while stubs(folder):
-        if time.monotonic() > end:
-            return False
-        time.sleep(0.02)
-    return True
-
-
 def receive(process, count):
     """So many bytes of the recorder's output, or fewer at its end."""
-    data = b""
-    while len(data) < count:
-        piece = os.read(process.stdout.fileno(), count - len(data))
-        if not piece:
-            break
-        data += piece
-    return data
+    return sessions.receive(process.stdout.fileno(), count)
 
 
 def open_session(process):

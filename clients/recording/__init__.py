@@ -10,7 +10,8 @@ ways      the way to a file by open folders, past links of others; whether other
 replacing files that are replaced whole
 naming    names of transcripts, and how they are opened
 sinks     where records go: files, pipes, a spool; the file of times beside a transcript
-signals   the module `signal`, quickly imported
+signals   the module `signal`, quickly imported, and a pipe by which signals wake a loop
+starts    the program that was installed beside the scripts, and why a command cannot run
 server    the server's process: its start, its end, its status
 auditing  an audit that reads along
 sessions  the loop that passes packets on, how it ends, and what the client of a session that ends still awaits

@@ -26,6 +26,16 @@ def end_in_order() -> None:
             signal.signal(number, come)
 
 
+@contextmanager
+def in_order() -> Iterator[None]:
+    """Signals end the block in order, and do nothing behind it."""
+    end_in_order()
+    try:
+        yield
+    finally:
+        hold_off()
+
+
 def come(number: int, _: object) -> None:
     hold_off()
     Coming.number = number

@@ -10,9 +10,10 @@ import time
 from recording import forced, naming
 from recording.notices import Notices, write_error
 from recording.packets import OPENING
-from recording.server import NotStarted, start
+from recording.server import start
 from recording.sessions import OWN_FAILURE, Session, Signals
 from recording.sinks import Failed, FileSink, SpoolSink, TimesSink
+from recording.starts import NotStarted, program_beside
 from recording.ways import named_twice, refuse_link_of_another
 
 NAME = "sftpv3-record"
@@ -72,12 +73,6 @@ def complain(text):
 
 def value_of(options, name):
     return getattr(options, name[2:].replace("-", "_"))
-
-
-def program_beside():
-    """The program that was installed with this recorder, lib/sftpv3/recording/options.py; else one of PATH."""
-    name = os.path.realpath(os.path.join(os.path.dirname(__file__), "../../../bin/sftpv3"))
-    return name if os.path.exists(name) else "sftpv3"
 
 
 def audit_words(options):

@@ -2,6 +2,7 @@
 import os
 
 from recording import signals
+from recording.starts import NotStarted
 
 try:
     import _socket as sockets
@@ -22,22 +23,12 @@ def one_way():
     return reader.detach(), writer.detach()
 
 
-class NotStarted(Exception):
-    """A command that cannot run, and the status for it, as shells have it."""
-
-    def __init__(self, text, status):
-        super().__init__(text)
-        self.status = status
-
-
 def start(words):
     """Starts the command in a session of its own, so that what it starts can be ended with it."""
     try:
         return Server(words)
-    except (FileNotFoundError, NotADirectoryError) as error:
-        raise NotStarted(f"cannot run {words[0]}: {error.strerror}", 127) from None
     except (OSError, ValueError) as error:
-        raise NotStarted(f"cannot run {words[0]}: {getattr(error, 'strerror', error)}", 126) from None
+        raise NotStarted(words[0], error) from None
 
 
 class Server:

@@ -31,14 +31,14 @@ AUDIT_REFUSED = 1
 BROKEN = select.POLLERR | select.POLLHUP | select.POLLNVAL
 
 
-class Signals:
+class Signals(signals.Waking):
     """The signals that end a session, and the ends of processes: they wake the loop."""
 
     def __init__(self):
+        super().__init__()
         self.got = None
         self.has_child_ended = False
-        self.ours, self.theirs = os.pipe2(os.O_NONBLOCK | os.O_CLOEXEC)
-        signals.set_wakeup_fd(self.theirs, warn_on_full_buffer=False)
+        self.wake()
         signals.signal(signals.SIGCHLD, self.note_child)
         for number in (signals.SIGTERM, signals.SIGHUP, signals.SIGINT):
             # what was ignored at the start stays ignored, as SIGINT below sftp
@@ -50,13 +50,6 @@ class Signals:
 
     def note_child(self, *_):
         self.has_child_ended = True
-
-    def drain(self):
-        try:
-            while os.read(self.ours, 4096):
-                pass
-        except BlockingIOError:
-            pass
 
 
 def widen(file):

@@ -6,7 +6,8 @@ import subprocess
 import time
 
 import sftp3
-from serve_trials.steps import IS_PLAIN, KINDS, SIGNALS, SOON, children_of, wait_until
+from serve_trials.steps import IS_PLAIN, KINDS, SIGNALS
+from trials.processes import SOON, children_of, wait_until
 
 BLOCK = bytes(range(256)) * 128
 # 100 MB in 7 files, each below the 16 MiB that a file may have.
@@ -133,7 +134,7 @@ def within_download(steps, room):
         handle = server.create("/f")
         for it in range(100):
             server.ask("WRITE", handle, it * len(BLOCK), BLOCK)
-        reading = server.ask("OPEN", b"/f", sftp3.READ, {})[9:]
+        reading = server.handle("OPEN", b"/f", sftp3.READ, {})
         asked = 3000
         packets = [sftp3.encode(sftp3.Request(it, "READ", [reading, it % 100 * len(BLOCK), len(BLOCK)]))
                    for it in range(1000, 1000 + asked)]
@@ -143,13 +144,13 @@ def within_download(steps, room):
                 while sent < asked and sent < got + ahead:
                     server.send(packets[sent])
                     sent += 1
-                if not server.reply():
+                if not server.packet():
                     break
                 got += 1
                 if got == 1000:
                     server.process.send_signal(signal.SIGTERM)
         except BrokenPipeError:
-            while server.reply():
+            while server.packet():
                 got += 1
         status = server.status(10)
         steps.check(f"{name}: it ends, status 0 or 1", status in (0, 1), f"{status}")
@@ -165,7 +166,7 @@ def what_came(steps, room):
         server.send(b"".join(packets))
         server.process.send_signal(signal.SIGTERM)
         got = 0
-        while server.reply():
+        while server.packet():
             got += 1
         status = server.status()
         steps.check(f"a thousand requests and a SIGTERM, over {kind}: all are answered and saved, status 0",
@@ -179,7 +180,7 @@ def waiting_client(steps, room):
     server.make("/a")
     handle = server.create("/f")
     server.ask("WRITE", handle, 0, BLOCK)
-    reading = server.ask("OPEN", b"/f", sftp3.READ, {})[9:]
+    reading = server.handle("OPEN", b"/f", sftp3.READ, {})
     server.send(b"".join(sftp3.encode(sftp3.Request(it, "READ", [reading, 0, len(BLOCK)])) for it in range(100, 300)))
     time.sleep(0.3)
     server.process.send_signal(signal.SIGTERM)

@@ -4,9 +4,9 @@ import re
 import signal
 import subprocess
 
-from record_trials.steps import make_user, remove_user
 from serve_trials.saving import USER, finish
-from serve_trials.steps import IS_PLAIN, SERVE, SOON
+from serve_trials.steps import IS_PLAIN, SERVE
+from trials.processes import SOON, executable, make_user, remove_user
 
 LINE = re.compile(r"\d{4}-\d\d-\d\dT\d\d:\d\d:\d\dZ [\w-]+\[(\d+)\] (.*)")
 
@@ -146,9 +146,8 @@ def environment(steps, room):
     """The server has the environment of the script, and nothing else."""
     if IS_PLAIN:
         return
-    program = room.folder / "program"
-    program.write_text("#!/usr/bin/python3 -IS\nimport os\nos.write(1, repr(sorted(os.environ.items())).encode())\n")
-    program.chmod(0o755)
+    program = executable(room.folder / "program", "#!/usr/bin/python3 -IS\nimport os\n"
+                         "os.write(1, repr(sorted(os.environ.items())).encode())\n")
     for name, given in (("none", {}), ("one of the user", {"GLIBC_TUNABLES": "glibc.malloc.hugetlb=1"}),
                         ("an empty one", {"GLIBC_TUNABLES": ""})):
         given = {"PATH": os.environ["PATH"], "LC_ALL": "C.UTF-8", **given}

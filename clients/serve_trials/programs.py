@@ -1,26 +1,15 @@
 """Real clients, as far as they are installed: sftp, lftp and paramiko over the script, and all of them through sshd."""
 import os
-import shutil
 import signal
-import socket
 import subprocess
-import sys
 import time
-from pathlib import Path
 
 from serve_trials import steps as trials
-from serve_trials.steps import children_of, wait_until
+from trials.clients import ServerOfLftp, has, paramiko_words, python_with_paramiko
+from trials.processes import SOON, below_of, wait_until
+from trials.sshd import SSHD, Sshd
 
-SSHD = "/usr/sbin/sshd"
 LARGE = bytes(range(256)) * 40_000
-SSH = ["-o", "IdentitiesOnly=yes", "-o", "StrictHostKeyChecking=no", "-o", "UserKnownHostsFile=/dev/null",
-       "-o", "LogLevel=ERROR"]
-
-
-def has(steps, client):
-    if not shutil.which(client):
-        steps.skip(client, "it is not installed")
-    return bool(shutil.which(client))
 
 
 def command(room, *words):
@@ -30,7 +19,7 @@ def command(room, *words):
 
 def run(words, **options):
     return subprocess.run(list(map(str, words)), stdout=subprocess.PIPE, stderr=subprocess.STDOUT, text=True,
-                          timeout=trials.SOON, **options)
+                          timeout=SOON, **options)
 
 
 def begun(words, commands, room, **options):
@@ -67,29 +56,16 @@ def with_lftp(steps, room):
     if not has(steps, "lftp"):
         return
     (room.folder / "large").write_bytes(LARGE)
-    # lftp calls it as it calls ssh: with options, the host and the name of the subsystem behind
-    caller = room.folder / "connect"
-    caller.write_text(f"#!/bin/sh\nexec {command(room, '--log', f'{room.folder}/log', '--verbose')}\n")
-    caller.chmod(0o755)
+    server = ServerOfLftp(room.folder, command(room, "--log", f"{room.folder}/log", "--verbose"))
     for number in range(5):
-        script = (f"set sftp:connect-program {caller}; set net:max-retries 1; set cmd:fail-exit yes; "
-                  f"open -u u,x sftp://server; mkdir d{number}; put {room.folder}/large -o d{number}/large; ls; bye")
-        ran = run(["lftp", "-c", script], cwd=room.folder)
+        commands = [*server.settings(), f"mkdir d{number}", f"put {room.folder}/large -o d{number}/large", "ls", "bye"]
+        ran = run(["lftp", "-c", "; ".join(commands)], cwd=room.folder)
         names = [f"/d{it}/large" for it in range(number + 1)]
         steps.check(f"lftp, session {number + 1}: its work is saved at its bye", ran.returncode == 0 and
                     is_saved(room, *names), f"{ran.returncode} {ran.stdout} {room.names()} {room.left()}")
 
 
 PARAMIKO = """
-import socket, subprocess, sys
-import paramiko
-class Named(socket.socket):
-    def get_name(self):
-        return "sftpv3"
-ours, theirs = socket.socketpair()
-with theirs:
-    server = subprocess.Popen(sys.argv[2:], stdin=theirs, stdout=theirs)
-client = paramiko.SFTPClient(Named(fileno=ours.detach()))
 client.mkdir("/p")
 client.open("/p/f", "w").close()
 server.terminate()
@@ -98,48 +74,12 @@ print(server.wait(10))
 
 
 def with_paramiko(steps, room):
-    python = next((it for it in ("/usr/bin/python3", sys.executable)
-                   if run([it, "-c", "import paramiko"]).returncode == 0), None)
-    if python is None:
+    if not python_with_paramiko():
         steps.skip("paramiko", "it is not installed")
         return
-    ran = run([python, "-c", PARAMIKO, "-", *command(room).split()])
+    ran = run(paramiko_words(PARAMIKO, command(room).split()))
     steps.check("paramiko, and a SIGTERM while it is open: the tree is saved", ran.stdout.endswith("0\n") and
                 is_saved(room, "/p", "/p/f"), ran.stdout)
-
-
-class Sshd:
-    """A sshd with a subsystem, for the user of this trial."""
-
-    def __init__(self, room, subsystem):
-        self.folder, self.key = room.folder, room.folder / "key"
-        with socket.socket() as probe:
-            probe.bind(("127.0.0.1", 0))
-            self.port = probe.getsockname()[1]
-        for name in ("host", "key"):
-            subprocess.run(["ssh-keygen", "-q", "-t", "ed25519", "-N", "", "-f", room.folder / name], check=True)
-        Path("/run/sshd").mkdir(exist_ok=True)
-        (room.folder / "config").write_text(
-            f"Port {self.port}\nListenAddress 127.0.0.1\nHostKey {room.folder}/host\nPidFile none\nUsePAM no\n"
-            f"AuthorizedKeysFile {room.folder}/key.pub\nStrictModes no\nPermitRootLogin yes\n"
-            f"Subsystem sftp {subsystem}\n")
-        self.process = subprocess.Popen([SSHD, "-D", "-f", room.folder / "config", "-E", room.folder / "sshd.log"])
-        wait_until(self.listens)
-
-    def listens(self):
-        with socket.socket() as probe:
-            return probe.connect_ex(("127.0.0.1", self.port)) == 0
-
-    def options(self):
-        return ["-o", f"Port={self.port}", "-o", f"IdentityFile={self.key}", *SSH]
-
-    def end(self):
-        self.process.terminate()
-        self.process.wait()
-
-    def of_connection(self):
-        """The processes of sshd for the connections that are there."""
-        return children_of(self.process.pid)
 
 
 def with_sshd(steps, room):
@@ -147,13 +87,11 @@ def with_sshd(steps, room):
         steps.skip("sshd", "it needs root, and sshd")
         return
     (room.folder / "large").write_bytes(LARGE)
-    sshd = Sshd(room, command(room, "--log", f"{room.folder}/log", "--verbose"))
-    try:
+    server = command(room, "--log", f"{room.folder}/log", "--verbose")
+    with Sshd(room.folder, f"Subsystem sftp {server}\n") as sshd:
         through_sshd(steps, room, sshd)
         killed_sshd(steps, room, sshd)
         through_sshfs(steps, room, sshd)
-    finally:
-        sshd.end()
 
 
 def through_sshd(steps, room, sshd):
@@ -185,23 +123,18 @@ def killed_sshd(steps, room, sshd):
             sftp.stdin.write(asked)
             sftp.stdin.flush()
             time.sleep(0.5)
-            for it in sshd.of_connection():
+            for it in sshd.of_connections():
                 os.kill(it, number)
             sftp.communicate()
             steps.check(f"{number.name} to sshd's process of the connection, {name}: the tree is saved",
                         is_saved(room, f"/{made}"), f"{room.names()} {room.left()}")
     sftp = begun(words, "mkdir both\n", room)
-    for found in sshd.of_connection():
+    for found in sshd.of_connections():
         for it in [*below_of(found), found]:
             os.kill(it, signal.SIGTERM)
     sftp.communicate()
     steps.check("SIGTERM to sshd's process and to all below it: the tree is saved", is_saved(room, "/both"),
                 f"{room.names()} {room.left()}")
-
-
-def below_of(number):
-    found = children_of(number)
-    return found + [it for child in found for it in below_of(child)]
 
 
 def through_sshfs(steps, room, sshd):

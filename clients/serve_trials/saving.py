@@ -4,8 +4,8 @@ import resource
 import signal
 import subprocess
 
-from record_trials.steps import make_user, remove_user
 from serve_trials.steps import PROGRAM, SIGNALS
+from trials.processes import make_user, remove_user
 
 USER = "sftpv3-served"
 

@@ -8,7 +8,6 @@ import subprocess
 import sys
 import tarfile
 import tempfile
-import time
 from pathlib import Path
 
 TOP = Path(__file__).resolve().parents[2]
@@ -16,14 +15,13 @@ sys.path.insert(0, str(TOP / "clients"))
 import sftp3
 from probing.program import program
 from recording import temporary
+from trials.processes import SOON, children_of, ended, kill
+from trials.sessions import Client
 
 PROGRAM = program()
 # what is tried, as words: `SERVE="FILE serve"` tries the program without the script
 SERVE = os.environ["SERVE"].split() if "SERVE" in os.environ else [str(TOP / "clients/serve"), "--program", PROGRAM]
 IS_PLAIN = "SERVE" in os.environ
-# How long, in seconds, is waited for what ends at once, however busy the machine is; what does not end, does not end by
-# then either.
-SOON = 100
 VERSION_BYTES = 124
 WRITTEN = sftp3.WRITE | sftp3.CREAT
 KINDS = ("sockets", "pipes")
@@ -39,69 +37,44 @@ def command(*words):
     return [*SERVE, *words]
 
 
-class Server:
+class Server(Client):
     """A server that was started, and the client's two ends of the session."""
 
     def __init__(self, words, kind, folder, **more):
         if kind == "sockets":
             ours, theirs = socket.socketpair()
-            self.input = self.output = ours.detach()
+            output = ours.detach()
+            super().__init__(output, output)
             reader, writer = theirs.detach(), None
         else:
-            reader, self.input = os.pipe()
-            self.output, writer = os.pipe()
+            reader, input = os.pipe()
+            output, writer = os.pipe()
+            super().__init__(input, output)
         # the signals of a terminal do not come to the trial itself
         options = {"cwd": folder, "stderr": subprocess.PIPE, "start_new_session": True, **more}
         self.process = subprocess.Popen(list(map(str, words)), stdin=reader,
                                         stdout=reader if writer is None else writer, **options)
         for it in {reader, writer} - {None}:
             os.close(it)
-        self.number = 0
-
-    def send(self, data):
-        while data:
-            data = data[os.write(self.input, data):]
-
-    def receive(self, count):
-        """So many bytes, or fewer at the end."""
-        data = b""
-        while len(data) < count:
-            try:
-                piece = os.read(self.output, count - len(data))
-            except ConnectionResetError:
-                break
-            if not piece:
-                break
-            data += piece
-        return data
-
-    def reply(self):
-        """The next packet without its length, or nothing at the end."""
-        head = self.receive(4)
-        return self.receive(int.from_bytes(head, "big")) if len(head) == 4 else b""
 
     def open(self):
         """Opens the session. Returns whether the server replied."""
         try:
-            self.send(sftp3.init())
+            return len(self.greet()) == VERSION_BYTES
         except BrokenPipeError:
             return False
-        return len(self.receive(VERSION_BYTES)) == VERSION_BYTES
-
-    def ask(self, name, *fields):
-        """A request and its reply."""
-        self.number += 1
-        self.send(sftp3.encode(sftp3.Request(self.number, name, list(fields))))
-        return self.reply()
 
     def make(self, name):
         """Makes a directory. Returns whether the reply says OK."""
-        return self.ask("MKDIR", name.encode(), {})[5:9] == bytes(4)
+        return sftp3.Reply(self.ask("MKDIR", name.encode(), {})).code == sftp3.OK
+
+    def handle(self, name, *fields):
+        """The handle that a request opens."""
+        return sftp3.Reply(self.ask(name, *fields)).handle
 
     def create(self, name):
         """Opens a new file. Returns its handle."""
-        said = self.ask("OPEN", name.encode(), WRITTEN, {})
-        return said[9:]
+        return self.handle("OPEN", name.encode(), WRITTEN, {})
 
     def close(self):
         """The client goes away."""
@@ -119,11 +92,8 @@ class Server:
             self.input = None
 
     def status(self, seconds=SOON):
-        """Its status, or None if it has not ended after so many seconds."""
-        try:
-            return self.process.wait(seconds)
-        except subprocess.TimeoutExpired:
-            return None
+        """Its status, or None if it has not ended within so many seconds."""
+        return ended(self.process, seconds)
 
     def errors(self):
         """What it printed to standard error. One that should have ended by now is killed."""
@@ -157,7 +127,7 @@ class Room:
             it.close()
             it.process.stderr.close()
             for number in children:
-                end(number)
+                kill(number)
         self.servers = []
 
     def serve_words(self, *words, tree="t"):
@@ -193,27 +163,3 @@ class Room:
     def left(self):
         """The names in the folder."""
         return sorted(it.name for it in self.folder.iterdir())
-
-
-def children_of(number):
-    try:
-        return [int(it) for it in Path(f"/proc/{number}/task/{number}/children").read_text().split()]
-    except OSError:
-        return []
-
-
-def end(number):
-    try:
-        os.kill(number, signal.SIGKILL)
-    except ProcessLookupError:
-        pass
-
-
-def wait_until(holds, seconds=SOON):
-    """Whether it holds within so many seconds."""
-    until = time.monotonic() + seconds
-    while not holds():
-        if time.monotonic() > until:
-            return False
-        time.sleep(0.01)
-    return True

@@ -5,9 +5,9 @@ import subprocess
 
 import sftp3
 from serve_trials import steps as trials
-from serve_trials.programs import has, run
+from serve_trials.programs import run
 from serve_trials.steps import PROGRAM
-from trials.steps import ServerOfLftp
+from trials.clients import Mount, ServerOfLftp, has
 
 LINES = ['D "/" 0 0 0755', 'D "/d" 1000 1001 0700', 'F "/d/f" 1 2 0644 "hello"', 'F "/empty" 0 0 0000 ""',
          'L "/link" "d/f"', 'D "/open" 12345678 4294967294 01777', 'F "/set" 0 0 06755 "s"',
@@ -42,8 +42,7 @@ def opened(room, *words, tree="t"):
 
 def said(server, name, *fields):
     """The code, the message and the language of a STATUS, or nothing of another reply."""
-    data = server.ask(name, *fields)
-    packet = sftp3.read(sftp3.SERVER, len(data).to_bytes(4, "big") + data)
+    packet = sftp3.read(sftp3.SERVER, server.ask(name, *fields))
     return tuple(packet.fields) if packet.name == "STATUS" else None
 
 
@@ -54,7 +53,7 @@ def with_texts(steps, room):
         found = said(server, name, *fields)
         steps.check(f"{name} of {fields[0].decode()}: {os.strerror(number)}", found is not None and
                     found[1:] == (os.strerror(number).encode(), b"en"), found)
-    handle = server.ask("OPENDIR", b"/d")[9:]
+    handle = server.handle("OPENDIR", b"/d")
     found = said(server, "READ", handle, 0, 10)
     steps.check("READ of a directory's handle: the text says so", found and b"handle of a directory" in found[1], found)
     steps.check("CLOSE: OK has no text", said(server, "CLOSE", handle) == (0, b"", b""))
@@ -82,10 +81,10 @@ def at_limits(steps, room):
     subprocess.run([PROGRAM, "raise", room.folder / "t", room.folder / "high"], check=True)
     for tree, most, way in (("t", 256, "allows 1024"), ("high", 1024, "--to most TREE FILE' allows 65536")):
         server = opened(room, tree=tree)
-        given = [server.ask("OPEN", b"/f", sftp3.READ, {})[0] for _ in range(most)]
+        given = [server.handle("OPEN", b"/f", sftp3.READ, {}) for _ in range(most)]
         for name, fields in (("OPEN", [b"/f", sftp3.READ, {}]), ("OPENDIR", [b"/"])):
             found = said(server, name, *fields)
-            steps.check(f"{name} with {most} open handles: the text says so", set(given) == {sftp3.HANDLE} and
+            steps.check(f"{name} with {most} open handles: the text says so", None not in given and
                         is_limit(found, f"{most} open handles", way), found)
     for tree, most, way in (("t", 2**24, "allows 67108864"),
                             ("high", 2**26, "--to most TREE FILE' allows 1099511627776")):
@@ -149,12 +148,11 @@ def with_lftp(steps, room, expected):
     if not has(steps, "lftp"):
         return
     server = ServerOfLftp(room.folder, command(room))
-    start = f"set sftp:connect-program {server.script}; set net:max-retries 1; open -u u,x sftp://server; "
-    ran = run(["lftp", "-c", f"{start}ls /; bye"], cwd=room.folder)
+    ran = run(["lftp", "-c", "; ".join([*server.settings(), "ls /", "bye"])], cwd=room.folder)
     steps.check(f"lftp, ls: {len(expected['/'])} lines, as ls -ln has them", rows(ran.stdout) == expected["/"],
                 f"{rows(ran.stdout)}, not {expected['/']}")
     server.wait()
-    ran = run(["lftp", "-c", f"{start}mkdir /d; bye"], cwd=room.folder)
+    ran = run(["lftp", "-c", "; ".join([*server.settings(), "mkdir /d", "bye"])], cwd=room.folder)
     server.wait()
     steps.check("lftp, mkdir of what is there: it shows the text", os.strerror(errno.EEXIST) in ran.stdout, ran.stdout)
 
@@ -164,21 +162,13 @@ def with_sshfs(steps, room):
     if not has(steps, "sshfs") or not os.path.exists("/dev/fuse") or os.geteuid() != 0:
         return
     make(room)
-    expected, shown = unpacked(room), {}
+    expected = unpacked(room)
     for words in ([], ["--no-texts", "--no-long-names"]):
-        mount = room.folder / "mount"
-        mount.mkdir(exist_ok=True)
         server = room.serve(*words)
-        sshfs = subprocess.Popen(["sshfs", "-f", "-o", "passive", ":/", mount], stdin=server.input, stdout=server.input)
-        if not trials.wait_until(mount.is_mount, 10):
-            raise AssertionError("the tree is not mounted")
-        try:
+        with Mount(room.folder / "mount", server.input, server.input) as mount:
             shown = {place: rows(run(["ls", "-lnA", f"{mount}{place}"], env=dict(os.environ, LC_ALL="C")).stdout)
                      for place in expected}
             said_by_mkdir = run(["mkdir", mount / "d"]).stdout
-        finally:
-            run(["fusermount3", "-u", mount])
-            sshfs.wait(10)
         told = " ".join(words) or "with words"
         steps.check(f"sshfs, {told}: ls -ln as in the folder", shown == expected, f"{shown}, not {expected}")
         steps.check(f"sshfs, {told}: mkdir says that it is there", os.strerror(errno.EEXIST) in said_by_mkdir,

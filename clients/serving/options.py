@@ -1,7 +1,6 @@
 """The command line: what is for the script, and what goes on to `sftpv3 serve`."""
-import os
-
 from recording import naming
+from recording.starts import program_beside
 from recording.ways import named_twice
 
 NAME = "sftpv3-serve"
@@ -55,12 +54,6 @@ def seconds(text: str) -> float:
     if not 0 <= found < 1e6:
         raise Misused(f"{text!r} is no number of seconds")
     return found
-
-
-def program_beside() -> str:
-    """The program that was installed with this script, lib/sftpv3/serving/options.py; else one of PATH."""
-    name = os.path.realpath(os.path.join(os.path.dirname(__file__), "../../../bin/sftpv3"))
-    return name if os.path.exists(name) else "sftpv3"
 
 
 def set_own(options: Options, name: str, value: str):

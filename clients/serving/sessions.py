@@ -3,20 +3,15 @@ import os
 import select
 import time
 
-from recording import naming
-from recording.ways import refuse_link_of_another
+from recording import naming, signals
 from recording.notices import Notices, write_error
+from recording.starts import NotStarted
+from recording.ways import refuse_link_of_another
 from serving.inputs import Filled, Given, Waiting, is_local_socket, shut_output, tree_of
 from serving.options import NAME, Misused, Options, read
 from serving.saving import Saving, Unfit
 
-try:
-    import _signal as signals
-except ImportError:
-    import signal as signals
-
 NOT_SAVED = 3
-NOT_RUN, NOT_FOUND = 126, 127
 
 ENDING = (signals.SIGTERM, signals.SIGHUP, signals.SIGINT)
 # How often, in milliseconds, a server that is to end is let go on where it waits for the other end of a FIFO.
@@ -24,20 +19,12 @@ GLANCE = 500.0
 BROKEN = select.POLLERR | select.POLLHUP | select.POLLNVAL
 
 
-class NotStarted(Exception):
-    """A program that cannot run, and the status for it, as shells have it."""
-
-    def __init__(self, text: str, status: int):
-        super().__init__(text)
-        self.status = status
-
-
-class Signals:
+class Signals(signals.Waking):
     """The signals that end a session, and the end of the server: they wake the loop."""
 
     def __init__(self):
+        super().__init__()
         self.is_got = False
-        self.ours, self.theirs = os.pipe2(os.O_NONBLOCK | os.O_CLOEXEC)
         # what was ignored at the start stays ignored, as SIGINT below sftp
         self.caught = [it for it in ENDING if signals.getsignal(it) != signals.SIG_IGN]
         signals.pthread_sigmask(signals.SIG_BLOCK, ENDING)
@@ -46,7 +33,7 @@ class Signals:
 
     def catch(self):
         """From here on they wake the loop. Until then they wait, and a process that is started ignores them."""
-        signals.set_wakeup_fd(self.theirs, warn_on_full_buffer=False)
+        self.wake()
         signals.signal(signals.SIGCHLD, lambda *_: None)
         for number in self.caught:
             signals.signal(number, self.note)
@@ -54,13 +41,6 @@ class Signals:
 
     def note(self, *_):
         self.is_got = True
-
-    def drain(self):
-        try:
-            while os.read(self.ours, 4096):
-                pass
-        except BlockingIOError:
-            pass
 
 
 class Lines:
@@ -128,10 +108,8 @@ class Session:
             os.set_inheritable(self.tree.server_end, True)
         try:
             process = os.posix_spawnp(words[0], words, os.environ, file_actions=actions, setsid=True, setsigmask=())
-        except (FileNotFoundError, NotADirectoryError) as error:
-            raise NotStarted(f"cannot run {words[0]}: {error.strerror}", NOT_FOUND) from None
         except (OSError, ValueError) as error:
-            raise NotStarted(f"cannot run {words[0]}: {getattr(error, 'strerror', error)}", NOT_RUN) from None
+            raise NotStarted(words[0], error) from None
         for it in (*(stream.server_end for stream in self.streams), self.lines and self.lines.theirs):
             if it is not None:
                 os.close(it)

@@ -7,9 +7,10 @@ import subprocess
 import time
 from pathlib import Path
 
+from trials import sshd
+
 LARGE = bytes(range(256)) * 4000
-OPTIONS = ["-o", "IdentityFile=/root/key", "-o", "IdentitiesOnly=yes", "-o", "StrictHostKeyChecking=no",
-           "-o", "UserKnownHostsFile=/dev/null", "-o", "LogLevel=ERROR"]
+OPTIONS = sshd.options("/root/key")
 
 
 def run(words, **options):

@@ -3,17 +3,17 @@ import os
 import random
 import signal
 import subprocess
-import sys
 import threading
 import time
 
 from probing import below, planner, servers, starting
 from probing.program import TOP, program
 from sftp3 import trees
-from walk_trials.walks import HOSTILE, POSIX, PROMPT, SFTP_SERVER, run, signalled, wait_until
+from trials.probes import SERVE, misbehaving
+from trials.processes import wait_until
+from walk_trials.walks import HOSTILE, POSIX, PROMPT, SFTP_SERVER, run, signalled
 
 PROBE = os.path.join(TOP, "clients", "probe")
-MISBEHAVING = [sys.executable, os.path.join(TOP, "clients", "probing", "misbehaving.py")]
 OWN, BASE = b"/live/base", b"/live/base/plan"
 
 # Servers of hostile.py in which a directory is to be removed, and what is said of it.
@@ -146,7 +146,7 @@ def try_serve(steps, folder):
         status, said = probe(folder, ["--look-first", "place"], serve + words)
         steps.check(f"{' '.join(['serve', *words])}: sessions are accepted",
                     status == 0 and "accepted: 2 sessions" in said, said[-2000:])
-    status, said = probe(folder, ["--look-first", "/place", "--budget", "5"], [*MISBEHAVING, "fifth-refusal", *serve])
+    status, said = probe(folder, ["--look-first", "/place", "--budget", "5"], misbehaving("fifth-refusal", serve))
     steps.check("each fifth refusal is OK: it is found", status == 1 and "STATUS with code 0 (OK)" in said,
                 said[-2000:])
     kept = os.path.join(folder, "kept")
@@ -159,7 +159,7 @@ def try_serve(steps, folder):
 def try_usage(steps, folder):
     start = os.path.join(folder, "blank.tree")
     for options, command, wanted, word in (
-            (["--look-first", "/"], [program(), "serve", "--tree", "{tree}"], 2, "excludes"),
+            (["--look-first", "/"], SERVE, 2, "excludes"),
             (["--look-first", "/", "--reset", "true"], ["true"], 2, "excludes"),
             (["--look-first", "/absent"], [program(), "serve", "--tree", start], 3, "is no directory"),
             (["--look-first", "/"], ["true"], 3, "the server ended")):

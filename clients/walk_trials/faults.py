@@ -7,7 +7,8 @@ import sys
 import tempfile
 
 from probing.program import TOP
-from walk_trials.walks import HOSTILE, SFTP_SERVER, WALK, executable, is_clean, run, signalled, walk
+from trials.processes import executable
+from walk_trials.walks import HOSTILE, SFTP_SERVER, WALK, is_clean, run, signalled, walk
 
 BETWEEN = [sys.executable, os.path.join(TOP, "clients", "walk_trials", "between.py")]
 

@@ -13,6 +13,8 @@ from contextlib import suppress
 from probing import starting
 from probing.program import TOP, program
 from sftp3 import trees
+from trials.probes import SERVE, misbehaving
+from trials.processes import executable, kill, processes_of, wait_until
 
 WALK = os.path.join(TOP, "clients", "walk")
 HOSTILE = [sys.executable, os.path.join(TOP, "clients", "walk_trials", "hostile.py")]
@@ -209,33 +211,6 @@ def entries_below(name, place):
     return [line for line in show(name).splitlines() if f'"{place}'.encode() in line.split(b" ", 2)[1]]
 
 
-def executable(name, text):
-    with open(name, "w", encoding="ascii") as file:
-        file.write(text)
-    os.chmod(name, 0o755)
-    return name
-
-
-def processes_of(mark):
-    """The processes that have this in their command line or their environment."""
-    found = []
-    for name in filter(str.isdigit, os.listdir("/proc")):
-        try:
-            for what in ("cmdline", "environ"):
-                with open(f"/proc/{name}/{what}", "rb") as file:
-                    found += [int(name)] if os.fsencode(mark) in file.read() else []
-        except OSError:
-            pass
-    return found
-
-
-def wait_until(holds):
-    """Waits until this holds, or too long."""
-    until = time.monotonic() + PROMPT
-    while not holds() and time.monotonic() < until:
-        time.sleep(0.05)
-
-
 def signalled(folder, words, number, environment, ignored=()):
     """Starts a command, and sends it a signal once the file `mark` is there. Gives its status, or None if it did not
     end in time, what it printed, what it left in its temporary folder, and its processes that are left."""
@@ -260,8 +235,7 @@ def signalled(folder, words, number, environment, ignored=()):
             status, said = None, ""
         left = os.listdir(temporary), processes_of(mark)
         for it in {running.pid, *left[1]} if running.poll() is None or left[1] else ():
-            with suppress(ProcessLookupError):
-                os.kill(it, signal.SIGKILL)
+            kill(it)
     shutil.rmtree(room)
     return status, said, *left
 
@@ -285,10 +259,8 @@ def try_signals(steps, folder):
 def try_pause(steps, folder):
     """Where all is stopped for longer than a reply may take, as in a container that is paused, no server is blamed."""
     probe = [os.path.join(TOP, "clients", "probe"), "--seeds", "1", "--jobs", "1", "--timeout", "4", "--keep", "kept"]
-    waits = [sys.executable, os.path.join(TOP, "clients", "probing", "misbehaving.py"), "waits_once", program(),
-             "serve", "--tree", "{tree}"]
     for words in ([WALK, "--timeout", "4", "--to", "seen.tree", "--", *HOSTILE, "marks_and_waits"],
-                  [*probe, "--", *waits]):
+                  [*probe, "--", *misbehaving("waits_once")]):
         mark = os.path.join(tempfile.mkdtemp(dir=folder), "mark")
         with subprocess.Popen(words, cwd=folder, env={**os.environ, "MARK": mark}, stdin=subprocess.DEVNULL,
                               stdout=subprocess.PIPE, stderr=subprocess.STDOUT) as running:
@@ -401,7 +373,7 @@ def try_soft_limit(steps, folder):
 
 def try_full_disk(steps, folder):
     """Where no file can be written, a walk and a probe fail: they do not tell of a tree or of differences."""
-    probe = [os.path.join(TOP, "clients", "probe"), "--", program(), "serve", "--tree", "{tree}"]
+    probe = [os.path.join(TOP, "clients", "probe"), "--", *SERVE]
     for name, words in (("walk", [WALK, "--to", "seen.tree", "--", *HOSTILE, "Right"]), ("probe", probe)):
         status, said = run(words, folder, preexec_fn=no_files)
         steps.check(f"{name}: without a place for temporary files: status 3", status == 3 and "temporary" in said

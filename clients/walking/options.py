@@ -98,7 +98,5 @@ def options(about):
 
 def profile_words(given):
     """The options of a profile, for the program."""
-    values = {option: getattr(given, option[2:].replace("-", "_")) for option in verdicts.PROFILE_OPTIONS}
-    if values["--profile"] == STRICT:
-        del values["--profile"]
-    return [word for option, value in values.items() if value is not None for word in (option, value)]
+    words = verdicts.profile_words(given)
+    return words[2:] if given.profile == STRICT else words

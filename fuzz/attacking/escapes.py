@@ -5,26 +5,20 @@ They go through a real sshd, whose user has the shell and the server that docs/O
 import os
 import re
 import shutil
-import socket as sockets
 import subprocess
 import time
 from contextlib import contextmanager
 
 from attacking import ground
-from attacking.sessions import Client
+from attacking.sessions import Session
 from attacking.ground import SECONDS, attack
 from attacking.recorders import daemon
 from attacking.saving import TOP
-from programs import program
+from probing.program import program
+from trials.sshd import Sshd
 
 SERVER = "/usr/lib/openssh/sftp-server"
-CONFIG = """Port {port}
-ListenAddress 127.0.0.1
-HostKey {folder}/host
-PidFile none
-AuthorizedKeysFile {folder}/key.pub
-StrictModes no
-UsePAM no
+SETTINGS = """UsePAM {pam}
 DisableForwarding yes
 PermitTTY no
 Subsystem sftp {server}
@@ -44,15 +38,12 @@ WITH_PAM = ["unshare", "--mount", "sh", "-c", 'mount --bind "$1" /etc/pam.d && s
 class Account:
     """A user with SFTP alone: a home, and the words of ssh that start a session."""
 
-    def __init__(self, name, folder, spool, port):
-        self.name, self.folder, self.spool = name, folder, spool
+    def __init__(self, name, options, spool):
+        self.name, self.options, self.spool = name, options, spool
         self.home = f"/home/{name}"
-        options = ["StrictHostKeyChecking=no", "UserKnownHostsFile=/dev/null", "LogLevel=ERROR", f"Port={port}",
-                   f"IdentityFile={folder}/key", "IdentitiesOnly=yes"]
-        self.options = [word for it in options for word in ("-o", it)]
 
     def session(self):
-        return Client(["ssh", *self.options, "-s", f"{self.name}@127.0.0.1", "sftp"])
+        return Session(["ssh", *self.options, "-s", f"{self.name}@127.0.0.1", "sftp"])
 
     def sftp(self, lines):
         return subprocess.run(["sftp", *self.options, "-b", "-", f"{self.name}@127.0.0.1"], input=lines, text=True,
@@ -69,28 +60,14 @@ class Account:
 def account(field, shell, pam=None):
     """A user with this login shell, an sshd and a daemon; sshd goes by the files of PAM in a folder, or by none."""
     name = f"sftpv3-{os.getpid()}u"
-    with sockets.socket() as probe:
-        probe.bind(("127.0.0.1", 0))
-        port = probe.getsockname()[1]
-    for key in ("host", "key"):
-        subprocess.run(["ssh-keygen", "-q", "-t", "ed25519", "-N", "", "-f", field.path(key)], check=True)
-    os.makedirs("/run/sshd", exist_ok=True)
     subprocess.run(["useradd", "--create-home", "--password", "*", "--shell", shell, name], check=True)
     try:
         with daemon(field) as (socket, spool):
             field.put("said", b"", 0o666)
-            text = CONFIG.format(port=port, folder=field.folder, server=SERVER, socket=socket,
-                                 record=field.script("record"))
-            text = text.replace("UsePAM no", "UsePAM yes") if pam else text
-            before = [*WITH_PAM, pam] if pam else []
-            sshd = subprocess.Popen([*before, "/usr/sbin/sshd", "-D", "-f", field.put("config", text.encode()),
-                                     "-E", field.path("log")])
-            time.sleep(1)
-            try:
-                yield Account(name, field.folder, spool, port)
-            finally:
-                sshd.terminate()
-                sshd.wait()
+            settings = SETTINGS.format(pam="yes" if pam else "no", folder=field.folder, server=SERVER, socket=socket,
+                                       record=field.script("record"))
+            with Sshd(field.folder, settings, [*WITH_PAM, pam] if pam else []) as sshd:
+                yield Account(name, sshd.options(), spool)
     finally:
         subprocess.run(["userdel", "--remove", name], stderr=subprocess.DEVNULL)
 

@@ -12,7 +12,7 @@ from contextlib import suppress
 from functools import cache
 from importlib import machinery, util
 
-from programs import program
+from probing.program import program
 from recording import ending, temporary
 from sftp3 import Request, encode
 

@@ -12,7 +12,7 @@ from unittest import mock
 
 from attacking.ground import CLIENTS, SECONDS, attack
 from attacking.servers import HELLO, built
-from programs import program
+from probing.program import program
 
 sys.path.append(os.path.join(CLIENTS, "servers"))
 import rooted  # noqa: E402 (its folder is not searched before)

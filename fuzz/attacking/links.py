@@ -7,7 +7,7 @@ import time
 from attacking.ground import CLIENTS, SECONDS, attack, wrong_status
 from attacking.saving import HELLO, OPENED
 from attacking.scripts import DIFFERING, ordinary
-from programs import program
+from probing.program import program
 
 SAID = b"a symbolic link of another user"
 FOLDERS = (0o1777, 0o777, 0o755)

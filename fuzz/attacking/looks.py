@@ -13,7 +13,7 @@ from contextlib import ExitStack, contextmanager, suppress
 from attacking.ground import CLIENTS, SECONDS, attack, script
 from attacking.saving import HELLO
 from attacking.sessions import MEBI
-from programs import program
+from probing.program import program
 from recording import mounted, naming
 from serving import saving
 from snapshot.looking import Trouble, View

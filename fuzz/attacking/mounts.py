@@ -22,7 +22,7 @@ from attacking.scripts import ordinary
 from attacking.servers import SERVER, built, session
 from nights import night
 from probing import options, reports
-from programs import program
+from probing.program import program
 from recording import mounted as mounts
 from recording import naming, ways
 from serving import saving

@@ -13,7 +13,7 @@ from attacking.recorders import KEEPER, beside
 from attacking.saving import TOP
 from attacking.sessions import HELLO
 from nights import records
-from programs import program
+from probing.program import program
 from recording import mounted
 from sftp3 import CLIENT, CREAT, SERVER, WRITE, Packet, Request, encode, put_records, status, version
 

@@ -12,7 +12,7 @@ from attacking.ground import SECONDS, attack, wrong_status
 from attacking.memory import archive_of
 from attacking.recorders import VICTIM
 from attacking.saving import OPENED, TOP
-from programs import program
+from probing.program import program
 from sftp3 import CLIENT, Request, SERVER, encode, init, put_records, version
 from sftp3.trees import DIRECTORY, Entry, Tree, put
 

@@ -14,7 +14,7 @@ from types import SimpleNamespace
 from attacking import hostile
 from attacking.ground import CLIENTS, SECONDS, attack, wrong_status
 from nights.records import Spool
-from programs import program
+from probing.program import program
 from recording import auditing, naming
 from sftp3 import Request, encode, init
 from sshd_trials import page

@@ -12,7 +12,7 @@ from attacking.ground import CLIENTS, SECONDS, attack
 from attacking.looks import CALLS, MOST, acting_before
 from attacking.scripts import DIFFERING, ordinary
 from probing import files
-from programs import TOP, program
+from probing.program import TOP, program
 from recording import ways
 from sftp3 import init
 from sftp3 import trees

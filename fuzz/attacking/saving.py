@@ -7,7 +7,7 @@ import threading
 import time
 
 from attacking.ground import attack, wrong_status
-from programs import TOP, program
+from probing.program import TOP, program
 from sftp3 import CLIENT, SERVER, init, put_records, version
 from sftp3.trees import FILE, Entry, Tree, put
 

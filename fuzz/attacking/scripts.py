@@ -10,7 +10,7 @@ import sys
 
 from attacking.ground import CLIENTS, SECONDS, attack
 from attacking.saving import HELLO, OPENED
-from programs import TOP, program
+from probing.program import TOP, program
 from sftp3 import CLIENT, SERVER, Request, encode, init, put_records, status, version
 
 COMMANDS = ("nightly", "page", "probe", "record", "recordd", "serve", "tree", "walk")

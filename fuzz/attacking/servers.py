@@ -8,7 +8,7 @@ from contextlib import suppress
 
 from attacking.ground import CLIENTS, SECONDS, attack
 from attacking.links import shared
-from programs import program
+from probing.program import program
 from sftp3 import init
 
 HELLO = init()

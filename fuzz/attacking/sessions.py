@@ -4,10 +4,11 @@ import os
 import subprocess
 import sys
 
-from programs import program
+from probing.program import program
 from sftp3 import (CLIENT, CREAT, DATA, Fields, HANDLE, NAME, Packet, READ, Reply, Request, SERVER, WRITE, encode,
-                   id_of, init, put_records, status, uint32, uint64, version)
+                   init, put_records, status, uint32, uint64, version)
 from sftp3.trees import Entry, FILE, Tree, USUAL, put
+from trials.sessions import Client
 
 READ_WRITE_CREATE = READ | WRITE | CREAT
 HELLO = init()
@@ -123,33 +124,19 @@ def run(field, words, asked=b"", zeros=0):
         return status, said.read().decode(), most
 
 
-class Client:
-    """One session of SFTP version 3."""
+class Session(Client):
+    """A session with a server that these words start."""
 
     def __init__(self, words):
         self.process = subprocess.Popen(words, stdin=subprocess.PIPE, stdout=subprocess.PIPE)
-        self.number = 0
-        self.send(init())
-        self.receive()
+        super().__init__(self.process.stdin.fileno(), self.process.stdout.fileno())
+        self.greet()
 
-    def send(self, data):
-        self.process.stdin.write(data)
-        self.process.stdin.flush()
-
-    def receive(self):
-        head = self.process.stdout.read(4)
-        if len(head) < 4:
+    def packet(self):
+        data = super().packet()
+        if not data:
             raise EOFError("the server has gone")
-        return head + self.process.stdout.read(int.from_bytes(head, "big"))
-
-    def ask(self, name, *fields):
-        """Asks, and returns the packet of the reply."""
-        self.number += 1
-        self.send(encode(Request(self.number, name, fields)))
-        while True:
-            reply = self.receive()
-            if id_of(reply) == self.number:
-                return reply
+        return data
 
     def open(self, path, flags=READ):
         reply = Reply(self.ask("OPEN", path, flags, {}))

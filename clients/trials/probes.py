@@ -1,0 +1,47 @@
+"""What trials of the probe and of audits share: servers with a fault each, the groups of a report, and plans of their
+own."""
+import json
+import os
+import sys
+
+from probing.plans import Step
+from probing.program import TOP, program
+
+# The server whose place those with a fault take.
+SERVE = [program(), "serve", "--tree", "{tree}"]
+
+
+def stand_in(module, name, server=SERVE):
+    """The command of a server that a program of `probing` makes wrong as one of its names says."""
+    return [sys.executable, os.path.join(TOP, "clients", "probing", f"{module}.py"), name, *server]
+
+
+def misbehaving(name, server=SERVE):
+    return stand_in("misbehaving", name, server)
+
+
+def planted(name):
+    return stand_in("planted", name)
+
+
+def faulty(name, *options):
+    """A server with a fault, whose sound server has these options of `serve`."""
+    return stand_in("faults", name, [*SERVE, *options])
+
+
+def groups_of(report):
+    """The groups that a report in JSON has."""
+    with open(report, encoding="utf-8") as file:
+        return [line for line in map(json.loads, file) if "kind" in line]
+
+
+class Plan:
+    """The steps of a session, as they are asked."""
+
+    def __init__(self):
+        self.steps = []
+
+    def ask(self, name, *fields):
+        """Adds a request. Returns what stands for the handle that it may open."""
+        self.steps.append(Step(len(self.steps) + 1, name, list(fields)))
+        return self.steps[-1].opened()
