@@ -35,10 +35,11 @@ NEAR, NAMED = 200, 5
 
 
 def usual(program_file):
-    """The options of an audit of users' sessions, as far as the program has them."""
+    """The options of an audit of users' sessions, as far as the program has them. The system gives what is made in a
+    folder with the set-gid bit the folder's group."""
     text = subprocess.run([program_file, "help", "audit"], stdout=subprocess.PIPE, check=False).stdout.decode()
     profile = "posix-user" if "posix-user" in text else "posix"
-    return ["--profile", profile] + ["--cut"] * ("--cut" in text)
+    return ["--profile", profile] + ["--cut"] * ("--cut" in text) + ["--new-owner", "posix"] * ("group, posix" in text)
 
 
 def named(lines, given, name):
@@ -56,14 +57,15 @@ def said_beside(record, others):
 
 
 def said_of_unanswered(first):
-    """Lines on what is known of an accepted session in which requests have no reply, by the line of the audit: the
-    record does not have which of its two ends went first."""
+    """Lines on what is known of an accepted session in which requests have no reply, by the line of the audit, and the
+    status: the record does not have which of its two ends went first. Where later requests have replies, nobody knows
+    whether these are right."""
     found = re.search(r", (\d+) unanswered(?:, (\d+) not judged)?", first)
     if not found:
-        return []
+        return [], 0
     later = f", and has its replies to {found[2]} later ones" if found[2] else ""
     return [f"the record ends before the server's reply to {found[1]} request{'s' * (found[1] != '1')}{later}: its "
-            "client or the server went first; if it was the server, the recorder's log says how"]
+            "client or the server went first; if it was the server, the recorder's log says how"], int(bool(found[2]))
 
 
 class Unsaid(Exception):
@@ -146,8 +148,8 @@ class Night:
             return
         first, *more = named(found.lines(), f"/proc/self/fd/{copy.file}", name) or [""]
         if found.status == 0:
-            self.say(f"{name}: {first}{note}")
-            unanswered = said_of_unanswered(first)
+            unanswered, status = said_of_unanswered(first)
+            self.say(f"{name}: {first}{note}", status)
             self.say_lines(unanswered)
             with ending.put_off():
                 accepting.accept(copy, after, self.tree)
