@@ -1,5 +1,5 @@
-"""Scenes that set times and look at them, as clients do that keep the times of files: `put -p`, and mounts. Each has names
-of its own, as those of transfers.py have."""
+"""Scenes that set times and look at them, as clients do that keep the times of files: `put -p`, and mounts. Each has
+names of its own, as those of transfers.py have."""
 from probing.plans import Content
 from probing.transfers import CREAT, READ, TRUNC, WRITE, download, listing, upload
 
