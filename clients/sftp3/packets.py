@@ -187,6 +187,21 @@ def decode(data: bytes) -> Request:
     return Request(number, *named(NAMES[kind], source))
 
 
+def names_in(data: bytes) -> list:
+    """The items of a NAME: each a name, a long name and attributes."""
+    return Fields(data[9:]).names()
+
+
+def attributes_in(data: bytes) -> dict:
+    """The attributes of an ATTRS."""
+    return Fields(data[9:]).attributes()
+
+
+def string_in(data: bytes) -> bytes:
+    """The bytes of a DATA, or a handle of a HANDLE."""
+    return Fields(data[9:]).string()
+
+
 class Reply:
     """The head of a reply: its id and its type; the code of a STATUS, the handle of a HANDLE."""
 

@@ -8,10 +8,9 @@ import time
 from contextlib import contextmanager, suppress
 
 from attacking.ground import SECONDS, attack
-from attacking.sessions import MEBI
 from attacking.recorders import KEEPER, beside
 from attacking.saving import TOP
-from attacking.sessions import HELLO
+from attacking.sessions import HELLO, MEBI
 from nights import records
 from probing.program import program
 from recording import mounted

@@ -5,8 +5,8 @@ import subprocess
 import sys
 
 from probing.program import program
-from sftp3 import (CLIENT, CREAT, DATA, Fields, HANDLE, NAME, Packet, READ, Reply, Request, SERVER, WRITE, encode,
-                   init, put_records, status, uint32, uint64, version)
+from sftp3 import (CLIENT, CREAT, DATA, HANDLE, NAME, Packet, READ, Reply, Request, SERVER, WRITE, encode, init,
+                   names_in, put_records, status, string_in, uint32, uint64, version)
 from sftp3.trees import Entry, FILE, Tree, USUAL, put
 from trials.sessions import Client
 
@@ -146,7 +146,7 @@ class Session(Client):
 
     def read(self, handle, offset, count):
         reply = self.ask("READ", handle, offset, count)
-        return Fields(reply[9:]).string() if reply[4] == DATA else None
+        return string_in(reply) if reply[4] == DATA else None
 
     def write(self, handle, offset, data):
         return Reply(self.ask("WRITE", handle, offset, data)).code
@@ -170,14 +170,14 @@ class Session(Client):
             return []
         found, reply = [], self.ask("READDIR", opened.handle)
         while reply[4] == NAME:
-            found += [name for name, _, _ in Fields(reply[9:]).names()]
+            found += [name for name, _, _ in names_in(reply)]
             reply = self.ask("READDIR", opened.handle)
         self.close(opened.handle)
         return found
 
     def link(self, path):
         reply = self.ask("READLINK", path)
-        return Fields(reply[9:]).names()[0][0] if reply[4] == NAME else b""
+        return names_in(reply)[0][0] if reply[4] == NAME else b""
 
     def recorder(self):
         """The process of the recorder of this session: the newest one of this user with that command."""
