@@ -293,7 +293,7 @@ class link_first(Healthy):
     def request(self, asked, packet):
         if asked.name != "SYMLINK":
             return packet
-        return sftp3.encode(sftp3.Request(asked.number, asked.name, asked.fields[::-1]))
+        return sftp3.request(asked.number, asked.name, *asked.fields[::-1])
 
 
 class without_owners(Healthy):

@@ -47,7 +47,7 @@ def with_reply(records, one, packet):
 
 
 def with_request(records, one, fields):
-    packet = sftp3.encode(sftp3.Request(one.asked.number, one.asked.name, fields))
+    packet = sftp3.request(one.asked.number, one.asked.name, *fields)
     return records[:one.at] + [(b"C", packet)] + records[one.at + 1:]
 
 

@@ -264,7 +264,7 @@ class rename_over(Bug):
         for packet in super().requests(packets):
             asked = sftp3.decode(packet)
             if asked.name == "RENAME":
-                packet = sftp3.encode(sftp3.Request(asked.number, "POSIX-RENAME", asked.fields))
+                packet = sftp3.request(asked.number, "POSIX-RENAME", *asked.fields)
             kept.append(packet)
         return kept
 

@@ -139,6 +139,11 @@ def init(number: int = 3) -> bytes:
     return encode(Packet(None, "INIT", [number, []]))
 
 
+def request(number: int, name: str, *fields: object) -> bytes:
+    """A request by its id and its name."""
+    return encode(Request(number, name, list(fields)))
+
+
 def version(number: int, extensions: list[tuple[bytes, bytes]]) -> bytes:
     """A VERSION with these extensions, pairs of name and data."""
     return encode(Packet(None, "VERSION", [number, extensions]))
