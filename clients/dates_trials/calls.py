@@ -1,10 +1,10 @@
 """What each request does to times, on the tree and by OpenSSH's sftp-server on a folder; times in the names of open
 directories."""
-import os
 import subprocess
 
 import sftp3
-from dates_trials.rooms import DIRECTORIES, FILES, LINK, OLD, OLDER, OPENSSH, PROGRAM, fill
+from dates_trials.rooms import DIRECTORIES, FILES, LINK, OLD, OLDER, PROGRAM, fill
+from trials.other_servers import has_openssh
 
 CREAT, TRUNC, EXCL, READ, WRITE = sftp3.CREAT, sftp3.TRUNC, sftp3.EXCL, sftp3.READ, sftp3.WRITE
 # Times that are given, of access and of modification.
@@ -159,8 +159,7 @@ def by_tree(steps, room):
 
 def by_openssh(steps, room):
     """What the trials expect is what OpenSSH's server has on a folder."""
-    if not os.path.exists(OPENSSH):
-        steps.skip("OpenSSH's server", "it is not installed")
+    if not has_openssh(steps):
         return
     for name, (call, expected) in CALLS.items():
         found = tried(room, room.openssh(), call, expected)

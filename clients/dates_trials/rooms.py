@@ -9,10 +9,10 @@ from pathlib import Path
 
 import sftp3
 from probing.program import TOP, program
+from trials.other_servers import SFTP_SERVER
 from trials.sessions import Client
 
 PROGRAM = program()
-OPENSSH = "/usr/lib/openssh/sftp-server"
 SCRIPT = os.path.join(TOP, "clients/serve")
 
 # Times that no clock shows any more, and whom they tell apart.
@@ -108,7 +108,7 @@ class Room:
         self.made += 1
         folder = self.folder / str(self.made)
         folder.mkdir()
-        return Server([OPENSSH], os.fsencode(folder))
+        return Server([SFTP_SERVER], os.fsencode(folder))
 
     def now(self):
         return int(time.time())

@@ -97,7 +97,7 @@ def wrong_size(records):
     done = mutated.exchanges(records)
     for one, shown in zip(done, done[1:]):
         if one.asked.name in ("SETSTAT", "FSETSTAT") and shown.kind == sftp3.ATTRS:
-            given = sftp3.Fields(shown.reply[9:]).attributes()
+            given = sftp3.attributes_in(shown.reply)
             body = sftp3.attributes({**given, "size": given["size"] + 12345})
             yield mutated.with_reply(records, shown, sftp3.packet(sftp3.ATTRS, shown.reply[5:9] + body))
 
@@ -105,7 +105,7 @@ def wrong_size(records):
 def missing_name(records):
     """A name that the session made is missing in a listing."""
     for one in mutated.listings(records):
-        items = mutated.names_of(one.reply)
+        items = sftp3.names_in(one.reply)
         for place, (name, _, _) in enumerate(items):
             if name.startswith(b"made-"):
                 left = items[:place] + items[place + 1:]

@@ -15,7 +15,6 @@ from trials import other_servers
 from trials.clients import Mount, NotMounted, ServerOfLftp, on_socket, paramiko_words, python_with_paramiko
 from trials.processes import ended
 
-SFTP_SERVER = "/usr/lib/openssh/sftp-server"
 POSIX = ["--profile", "posix"]
 # Seconds for a client.
 PATIENCE = 60

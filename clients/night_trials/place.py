@@ -5,9 +5,9 @@ import subprocess
 import time
 
 from record_trials.steps import INIT, PROGRAM, TOP, receive
+from trials.other_servers import SFTP_SERVER
 from trials.processes import executable
 
-SERVER = "/usr/lib/openssh/sftp-server"
 USER = pwd.getpwuid(os.getuid()).pw_name
 # What the last line of a good night says.
 ENDS_WELL = "the folder is as they left it"
@@ -31,7 +31,7 @@ class Place:
         self.live, self.records, self.state = room / "live", room / "records", room / "state"
         for it in (self.live, self.records):
             it.mkdir()
-        self.words = [TOP / "clients/record", "--required", f"{self.records}/%u-%t-%h-%p.transcript", SERVER, "-u",
+        self.words = [TOP / "clients/record", "--required", f"{self.records}/%u-%t-%h-%p.transcript", SFTP_SERVER, "-u",
                       "022"]
 
     def session(self, *commands):

@@ -103,10 +103,10 @@ def of_code(expected, reply):
     return Byte(CODE, None, None, codes[0], reply[CODE])
 
 
-def bytes_round(reply, byte, before=16, after=16):
-    """The bytes of a packet round the one that differs: the place of the first, and the bytes."""
-    start = max(0, byte.packet - before) // 16 * 16
-    return start, reply[start:start + before + after]
+def bytes_round(reply, byte):
+    """The bytes of a packet round the one that differs, two rows of 16: the place of the first, and the bytes."""
+    start = max(0, byte.packet - 16) // 16 * 16
+    return start, reply[start:start + 32]
 
 
 # On a page of many sessions, one of so many records is shown whole, and of a longer one so many before and behind what

@@ -222,17 +222,12 @@ def with_data(packet, data):
 
 def attributes_of(packet):
     """The attributes in a reply, or None."""
-    return sftp3.Fields(packet[9:]).attributes() if packet[4] == sftp3.ATTRS else None
+    return sftp3.attributes_in(packet) if packet[4] == sftp3.ATTRS else None
 
 
 def with_attributes(packet, given):
     """ATTRS with these attributes in place of a reply."""
     return sftp3.packet(sftp3.ATTRS, packet[5:9] + sftp3.attributes(given))
-
-
-def names_of(packet):
-    """The items of NAME: each a name, a long name and attributes."""
-    return sftp3.Fields(packet[9:]).names()
 
 
 def with_names(packet, items):
@@ -295,7 +290,7 @@ class Listings(Fault):
             self.given[sftp3.Reply(reply).handle] = 0
         if asked.name != "READDIR" or reply[4] != sftp3.NAME:
             return [reply]
-        items, before = names_of(reply), self.given.get(asked.handle(), 0)
+        items, before = sftp3.names_in(reply), self.given.get(asked.handle(), 0)
         self.given[asked.handle()] = before + len(items)
         return [with_names(reply, self.listed(asked, before, items))]
 

@@ -5,7 +5,7 @@ import posixpath
 import sftp3
 from probing.faulty import (
     ABSENT, END, FAILED, FAR, LOOKS, MOVES, SETS, Attributes, Fault, InFlight, Listings, aim_of, attributes_of, clean,
-    is_path, names_of, refused, sets_size, status, with_names)
+    is_path, refused, sets_size, status, with_names)
 from sftp3 import APPEND, CREAT, EXCL, READ, TRUNC, WRITE
 
 
@@ -130,7 +130,7 @@ class long_listing_cut(Fault):
     """A reply of a listing that would have more than 16,384 bytes lacks its last names."""
 
     def answer(self, asked, reply):
-        items = names_of(reply) if asked.name == "READDIR" and reply[4] == sftp3.NAME else []
+        items = sftp3.names_in(reply) if asked.name == "READDIR" and reply[4] == sftp3.NAME else []
         while len(reply) > 16384 and items:
             items.pop()
             reply = with_names(reply, items)
@@ -493,7 +493,7 @@ class Targets(Fault):
     def answer(self, asked, reply):
         if asked.name != "READLINK" or reply[4] != sftp3.NAME:
             return [reply]
-        target = self.target(asked, names_of(reply)[0][0])
+        target = self.target(asked, sftp3.names_in(reply)[0][0])
         return [with_names(reply, [(target, target, {})])]
 
     def target(self, _asked, target):

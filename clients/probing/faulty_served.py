@@ -4,7 +4,7 @@ import posixpath
 
 import sftp3
 from probing.faulty import (
-    END, FAILED, FAR, LOOKS, OK_STATUS, Asks, Fault, Listings, Reads, Statuses, clean, names_of, refused, status,
+    END, FAILED, FAR, LOOKS, OK_STATUS, Asks, Fault, Listings, Reads, Statuses, clean, refused, status,
     with_names)
 from probing.faulty_meetings import Meets, Refuses, Targets
 from sftp3 import APPEND, CREAT, EXCL, READ, WRITE
@@ -23,7 +23,7 @@ class Walks(Asks):
     def target_now(self, path):
         """The target of the link at a path, or None."""
         reply = self.now("READLINK", path)
-        return names_of(reply)[0][0] if reply[4] == sftp3.NAME else None
+        return sftp3.names_in(reply)[0][0] if reply[4] == sftp3.NAME else None
 
     def aim(self, path):
         """Where a link leads by its own target, as a path, or None if no link is there."""
@@ -282,7 +282,7 @@ class listing_begins_again(Listings):
         if asked.name != "READDIR" or number is None:
             return [reply]
         if reply[4] == sftp3.NAME:
-            self.firsts.setdefault(number, names_of(reply))
+            self.firsts.setdefault(number, sftp3.names_in(reply))
         elif number in self.ended and number in self.firsts:
             return [with_names(reply, self.firsts[number])]
         else:
@@ -317,7 +317,7 @@ class hidden_names_do_not_count(Walks):
         handle, found = sftp3.Reply(self.now("OPENDIR", path)).handle, []
         reply = self.now("READDIR", handle)
         while reply[4] == sftp3.NAME:
-            found += [name for name, _, _ in names_of(reply)]
+            found += [name for name, _, _ in sftp3.names_in(reply)]
             reply = self.now("READDIR", handle)
         self.now("CLOSE", handle)
         return found

@@ -293,7 +293,7 @@ class link_first(Healthy):
     def request(self, asked, packet):
         if asked.name != "SYMLINK":
             return packet
-        return sftp3.encode(sftp3.Request(asked.number, asked.name, asked.fields[::-1]))
+        return sftp3.request(asked.number, asked.name, *asked.fields[::-1])
 
 
 class without_owners(Healthy):
@@ -412,7 +412,7 @@ class two_faults(Healthy):
         if packet[4] == sftp3.DATA and len(packet) > 14:
             return sftp3.packet(sftp3.DATA, packet[5:9] + sftp3.string(packet[13:-1]))
         if asked.name == "FSTAT" and packet[4] == sftp3.ATTRS:
-            given = sftp3.Fields(packet[9:]).attributes()
+            given = sftp3.attributes_in(packet)
             given["permissions"] ^= 0o7
             return sftp3.packet(sftp3.ATTRS, packet[5:9] + sftp3.attributes(given))
         return packet

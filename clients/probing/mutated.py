@@ -26,7 +26,7 @@ class Exchange:
 
     def data(self):
         """The bytes of DATA, or None."""
-        return sftp3.Fields(self.reply[9:]).string() if self.kind == sftp3.DATA else None
+        return sftp3.string_in(self.reply) if self.kind == sftp3.DATA else None
 
 
 def exchanges(records):
@@ -47,7 +47,7 @@ def with_reply(records, one, packet):
 
 
 def with_request(records, one, fields):
-    packet = sftp3.encode(sftp3.Request(one.asked.number, one.asked.name, fields))
+    packet = sftp3.request(one.asked.number, one.asked.name, *fields)
     return records[:one.at] + [(b"C", packet)] + records[one.at + 1:]
 
 
@@ -100,11 +100,6 @@ def lost_write(records):
         yield with_request(records, one, [handle, offset, bytes(byte ^ 0x55 for byte in data)])
 
 
-def names_of(packet):
-    """The items of NAME, each with its name, its long name and its attributes."""
-    return sftp3.Fields(packet[9:]).names()
-
-
 def name_packet(one, items):
     return sftp3.packet(sftp3.NAME, one.reply[5:9] + sftp3.names(items))
 
@@ -129,7 +124,7 @@ def listings(records):
 def missing_name(records):
     """A name is missing in a listing that ends."""
     for one in listings(records):
-        items = names_of(one.reply)
+        items = sftp3.names_in(one.reply)
         own = [item for item in items if item[0] not in (b".", b"..")]
         if own and len(items) > 1:
             yield with_reply(records, one, name_packet(one, [item for item in items if item is not own[-1]]))
@@ -138,7 +133,7 @@ def missing_name(records):
 def name_twice(records):
     """A name is in a reply twice."""
     for one in exchanges(records):
-        items = names_of(one.reply) if one.asked.name == "READDIR" and one.kind == sftp3.NAME else []
+        items = sftp3.names_in(one.reply) if one.asked.name == "READDIR" and one.kind == sftp3.NAME else []
         own = [item for item in items if item[0] not in (b".", b"..")]
         if own:
             yield with_reply(records, one, name_packet(one, items + own[:1]))
@@ -149,14 +144,14 @@ def with_attributes(records, kinds, change):
     attributes that are changed."""
     for one in exchanges(records):
         if one.kind == sftp3.ATTRS:
-            given = sftp3.Fields(one.reply[9:]).attributes()
+            given = sftp3.attributes_in(one.reply)
             # of a directory whose handle is open while it is removed, anything may be shown
             of_handle = one.asked.name == "FSTAT" and given.get("permissions", 0) & TYPES == DIRECTORY_TYPE
             if given.get("permissions", 0) & TYPES in kinds and not of_handle:
                 body = sftp3.attributes(change(given))
                 yield with_reply(records, one, sftp3.packet(sftp3.ATTRS, one.reply[5:9] + body))
         elif one.asked.name == "READDIR" and one.kind == sftp3.NAME:
-            items = names_of(one.reply)
+            items = sftp3.names_in(one.reply)
             places = [place for place, (name, _, given) in enumerate(items)
                       if given.get("permissions", 0) & TYPES in kinds and name not in (b".", b"..")]
             for place in places[:1]:

@@ -308,13 +308,12 @@ def plan(seed, tree, count, skip=()):
     return steps
 
 
-def spell(random, model, place, plain=False):
-    """A path of this place: mostly its absolute text, and else one of many others. A plain one is that text."""
+def spell(random, model, place):
+    """A path of this place: mostly its absolute text, and else one of many others."""
     text = b"/" + b"/".join(place)
-    ways = [] if plain else [doubled, dotted, roundabout, through_link, ending]
-    if not plain and random.random() < 0.3:
-        text = random.choice(ways)(random, model, place, text)
-    if not plain and not model.home and text.startswith(b"/") and random.random() < 0.2:
+    if random.random() < 0.3:
+        text = random.choice([doubled, dotted, roundabout, through_link, ending])(random, model, place, text)
+    if not model.home and text.startswith(b"/") and random.random() < 0.2:
         text = text.lstrip(b"/") or b"."
     return text
 

@@ -166,7 +166,7 @@ def many(step, number, of_parts):
 
 def question():
     """The packet that asks for the room."""
-    return sftp3.encode(sftp3.Request(NUMBER, "EXTENDED", [EXTENSION, b""]))
+    return sftp3.request(NUMBER, "EXTENDED", EXTENSION, b"")
 
 
 def answered(packet):

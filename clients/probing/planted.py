@@ -87,10 +87,10 @@ class no_owners(wrong_byte):
 
     def changed(self, name, packet):
         if packet[4] == sftp3.ATTRS:
-            given = self.shown(sftp3.Fields(packet[9:]).attributes())
+            given = self.shown(sftp3.attributes_in(packet))
             return sftp3.packet(sftp3.ATTRS, packet[5:9] + sftp3.attributes(given))
         if packet[4] == sftp3.NAME:
-            items = [(name, long, self.shown(given)) for name, long, given in sftp3.Fields(packet[9:]).names()]
+            items = [(name, long, self.shown(given)) for name, long, given in sftp3.names_in(packet)]
             return sftp3.packet(sftp3.NAME, packet[5:9] + sftp3.names(items))
         return super().changed(name, packet)
 
@@ -133,7 +133,7 @@ class name_twice(Bug):
     def changed(self, name, packet):
         if name != "READDIR" or packet[4] != sftp3.NAME:
             return packet
-        items = sftp3.Fields(packet[9:]).names()
+        items = sftp3.names_in(packet)
         return sftp3.packet(sftp3.NAME, packet[5:9] + sftp3.names(items + items[:1]))
 
 
@@ -264,7 +264,7 @@ class rename_over(Bug):
         for packet in super().requests(packets):
             asked = sftp3.decode(packet)
             if asked.name == "RENAME":
-                packet = sftp3.encode(sftp3.Request(asked.number, "POSIX-RENAME", asked.fields))
+                packet = sftp3.request(asked.number, "POSIX-RENAME", *asked.fields)
             kept.append(packet)
         return kept
 

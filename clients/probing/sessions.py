@@ -179,7 +179,7 @@ class Player:
                 self.heard = self.streams.clock.now()
             self.asked += 1
             self.unanswered[step.number] = self.asked
-            self.give(sftp3.encode(sftp3.Request(step.number, step.name, given)))
+            self.give(sftp3.request(step.number, step.name, *given))
 
     def far_behind(self):
         return bool(self.unanswered) and self.asked - next(iter(self.unanswered.values())) >= WINDOW

@@ -6,7 +6,8 @@ import subprocess
 import time
 
 import sftp3
-from record_trials.steps import INIT, RECORD, STUB, close, errors, open_session, receive, request, stubs
+from record_trials.steps import INIT, RECORD, STUB, close, errors, open_session, receive, stubs
+from sftp3 import request
 from trials.processes import SOON, ended, wait_until
 
 

@@ -7,7 +7,8 @@ import time
 
 import sftp3
 from record_trials.ends import whole
-from record_trials.steps import INIT, RECORD, STUB, errors, open_session, request
+from record_trials.steps import INIT, RECORD, STUB, errors, open_session
+from sftp3 import request
 from trials.processes import SOON, ended, executable
 
 

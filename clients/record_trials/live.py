@@ -9,9 +9,10 @@ import time
 
 from record_trials.ends import whole
 from record_trials.failing import limited, run
-from record_trials.steps import INIT, PROGRAM, STUB, close, errors, open_session, receive, request
+from record_trials.steps import INIT, PROGRAM, STUB, close, errors, open_session, receive
 from recording import naming
 from recording.options import AUDIT_FLAGS, AUDIT_VALUES, audit_words, plainly_read
+from sftp3 import request
 from trials.processes import SOON, ended, executable, wait_until
 
 LINE = "audit: refused record 8: UnknownReply"

@@ -7,9 +7,10 @@ import subprocess
 import time
 
 from record_trials.failing import run
-from record_trials.steps import INIT, RECORD, STUB, close, open_session, request
+from record_trials.steps import INIT, RECORD, STUB, close, open_session
 from recording.options import plainly_read
 from recording.parsers import record_parser
+from sftp3 import request
 from trials.processes import SOON, ended
 
 

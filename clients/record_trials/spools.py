@@ -10,7 +10,8 @@ import time
 from pathlib import Path
 
 import sftp3
-from record_trials.steps import INIT, STUB, TOP, close, errors, open_session, receive, request
+from record_trials.steps import INIT, STUB, TOP, close, errors, open_session, receive
+from sftp3 import request
 from trials.processes import SOON, ended, executable, make_user, remove_user, wait_until
 
 DAEMON = os.environ.get("RECORDD", str(TOP / "clients/recordd"))

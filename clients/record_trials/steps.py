@@ -86,10 +86,6 @@ def open_session(process):
     return receive(process, 9)
 
 
-def request(number, name, *fields):
-    return sftp3.encode(sftp3.Request(number, name, list(fields)))
-
-
 def errors(process):
     """What the process printed to standard error, when it has ended. One that has not by now is ended."""
     if process.poll() is None:

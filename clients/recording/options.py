@@ -313,7 +313,7 @@ def keep_records(options):
         return OWN_FAILURE
 
 
-def recordd(words=None):
+def recordd():
     from recording.parsers import daemon_parser
-    options = daemon_parser().parse_args(words)
+    options = daemon_parser().parse_args()
     return run(lambda: keep_records(options), "sftpv3-recordd")

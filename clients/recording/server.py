@@ -2,7 +2,7 @@
 import os
 
 from recording import signals
-from recording.starts import NotStarted
+from recording.starts import NotStarted, exit_code
 
 try:
     import _socket as sockets
@@ -56,9 +56,7 @@ class Server:
     def look(self):
         """A process has ended: asks whether it was this one."""
         if self.code is None:
-            ended, status = os.waitpid(self.process, os.WNOHANG)
-            if ended:
-                self.code = os.waitstatus_to_exitcode(status)
+            self.code = exit_code(self.process)
 
     def has_ended(self):
         return self.code is not None

@@ -1,4 +1,7 @@
-"""What the recorder and sftpv3-serve start: the program that was installed with them, and why a command cannot run."""
+"""What the recorder and sftpv3-serve start: the program that was installed with them, whether a process has ended, and
+why a command cannot run."""
+from __future__ import annotations
+
 import os
 
 
@@ -6,6 +9,12 @@ def program_beside() -> str:
     """The program of which this is lib/sftpv3/recording/starts.py; else one of PATH."""
     name = os.path.realpath(os.path.join(os.path.dirname(__file__), "../../../bin/sftpv3"))
     return name if os.path.exists(name) else "sftpv3"
+
+
+def exit_code(process: int) -> int | None:
+    """How a process has ended, or None while it runs."""
+    ended, status = os.waitpid(process, os.WNOHANG)
+    return os.waitstatus_to_exitcode(status) if ended else None
 
 
 class NotStarted(Exception):

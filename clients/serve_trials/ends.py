@@ -72,7 +72,7 @@ def requests_of(handles):
     for block in range(BLOCKS):
         for handle in handles:
             number += 1
-            yield sftp3.encode(sftp3.Request(number, "WRITE", [handle, block * len(BLOCK), BLOCK]))
+            yield sftp3.request(number, "WRITE", handle, block * len(BLOCK), BLOCK)
 
 
 def upload(server, handles, after, act):
@@ -136,7 +136,7 @@ def within_download(steps, room):
             server.ask("WRITE", handle, it * len(BLOCK), BLOCK)
         reading = server.handle("OPEN", b"/f", sftp3.READ, {})
         asked = 3000
-        packets = [sftp3.encode(sftp3.Request(it, "READ", [reading, it % 100 * len(BLOCK), len(BLOCK)]))
+        packets = [sftp3.request(it, "READ", reading, it % 100 * len(BLOCK), len(BLOCK))
                    for it in range(1000, 1000 + asked)]
         sent, got, ahead = 0, 0, 16
         try:
@@ -162,7 +162,7 @@ def what_came(steps, room):
     """Requests that were sent before the signal are answered, each."""
     for kind in KINDS:
         server = room.saving(kind=kind, save=kind)
-        packets = [sftp3.encode(sftp3.Request(it, "MKDIR", [b"/%d" % it, {}])) for it in range(1000)]
+        packets = [sftp3.request(it, "MKDIR", b"/%d" % it, {}) for it in range(1000)]
         server.send(b"".join(packets))
         server.process.send_signal(signal.SIGTERM)
         got = 0
@@ -181,7 +181,7 @@ def waiting_client(steps, room):
     handle = server.create("/f")
     server.ask("WRITE", handle, 0, BLOCK)
     reading = server.handle("OPEN", b"/f", sftp3.READ, {})
-    server.send(b"".join(sftp3.encode(sftp3.Request(it, "READ", [reading, 0, len(BLOCK)])) for it in range(100, 300)))
+    server.send(b"".join(sftp3.request(it, "READ", reading, 0, len(BLOCK)) for it in range(100, 300)))
     time.sleep(0.3)
     server.process.send_signal(signal.SIGTERM)
     status = server.status()
@@ -205,7 +205,7 @@ def leaving_clients(steps, room):
                     status == 0 and room.names(f"gone.{kind}") == ["/a"], f"{status}")
         server = room.saving(kind=kind, save=f"cut.{kind}")
         server.make("/a")
-        server.send(b"".join(sftp3.encode(sftp3.Request(it, "READDIR", [b"none"])) for it in range(100)) + b"\0\0")
+        server.send(b"".join(sftp3.request(it, "READDIR", b"none") for it in range(100)) + b"\0\0")
         server.close()
         server.process.send_signal(signal.SIGHUP)
         status = server.status()
@@ -264,7 +264,7 @@ def killed_script(steps, room):
 
 
 def files_as_streams(steps, room):
-    (room.folder / "asked").write_bytes(sftp3.init() + sftp3.encode(sftp3.Request(1, "MKDIR", [b"/a", {}])))
+    (room.folder / "asked").write_bytes(sftp3.init() + sftp3.request(1, "MKDIR", b"/a", {}))
     words = [*room.serve_words("--save", "t")]
     with open(room.folder / "asked", "rb") as asked, open(room.folder / "replies", "wb") as replies:
         ran = subprocess.run(words, stdin=asked, stdout=replies, cwd=room.folder, timeout=SOON)

@@ -5,7 +5,7 @@ import time
 
 from recording import naming, signals
 from recording.notices import Notices, write_error
-from recording.starts import NotStarted
+from recording.starts import NotStarted, exit_code
 from recording.ways import refuse_link_of_another
 from serving.inputs import Filled, Given, Waiting, is_local_socket, shut_output, tree_of
 from serving.options import NAME, Misused, Options, read
@@ -118,9 +118,7 @@ class Session:
     def look(self):
         """Asks whether the server has ended."""
         if self.code is None:
-            ended, status = os.waitpid(self.process, os.WNOHANG)
-            if ended:
-                self.code = os.waitstatus_to_exitcode(status)
+            self.code = exit_code(self.process)
 
     def wanted(self) -> dict[int, int]:
         wanted = {self.signs.ours: select.POLLIN}

@@ -7,15 +7,17 @@ from sftp3.fields import Fields, Malformed, attributes, names, pairs, string, ui
 from sftp3.packets import (APPEND, ATTRS, BAD_MESSAGE, CLIENT, CODES, CREAT, DATA, EOF, EXCL, EXTENDED, EXTENDED_REPLY,
                            EXTENSIONS, FAILURE, HANDLE, INIT, LAYOUTS, LONGEST, LOOKERS, NAME, NAMES, NO_SUCH_FILE,
                            OK, OP_UNSUPPORTED, PERMISSION_DENIED, READ, REPLIES, REQUESTS, SERVER, STATUS, TRUNC,
-                           VERSION, WRITE, Packet, Reply, Request, code_name, decode, encode, front, id_of, init,
-                           length, packet, read, split, status, version, version_of)
+                           VERSION, WRITE, Packet, Reply, Request, attributes_in, code_name, decode, encode, front,
+                           id_of, init, length, names_in, packet, read, request, split, status, string_in, version,
+                           version_of)
 from sftp3.transcripts import OPENING, each_record, put_records, records, until_fault
 
 __all__ = [
     "APPEND", "ATTRS", "BAD_MESSAGE", "CLIENT", "CODES", "CREAT", "DATA", "EOF", "EXCL", "EXTENDED", "EXTENDED_REPLY",
     "EXTENSIONS", "FAILURE", "Fields", "HANDLE", "INIT", "LAYOUTS", "LONGEST", "LOOKERS", "Malformed", "NAME", "NAMES",
     "NO_SUCH_FILE", "OK", "OPENING", "OP_UNSUPPORTED", "PERMISSION_DENIED", "Packet", "READ", "REPLIES", "REQUESTS",
-    "Reply", "Request", "SERVER", "STATUS", "TRUNC", "VERSION", "WRITE", "attributes", "code_name", "decode",
-    "each_record", "encode", "front", "id_of", "init", "length", "names", "packet", "pairs", "put_records", "read",
-    "records", "split", "status", "string", "uint32", "uint64", "until_fault", "version", "version_of",
+    "Reply", "Request", "SERVER", "STATUS", "TRUNC", "VERSION", "WRITE", "attributes", "attributes_in", "code_name",
+    "decode", "each_record", "encode", "front", "id_of", "init", "length", "names", "names_in", "packet", "pairs",
+    "put_records", "read", "records", "request", "split", "status", "string", "string_in", "uint32", "uint64",
+    "until_fault", "version", "version_of",
 ]

@@ -139,6 +139,11 @@ def init(number: int = 3) -> bytes:
     return encode(Packet(None, "INIT", [number, []]))
 
 
+def request(number: int, name: str, *fields: object) -> bytes:
+    """A request by its id and its name."""
+    return encode(Request(number, name, list(fields)))
+
+
 def version(number: int, extensions: list[tuple[bytes, bytes]]) -> bytes:
     """A VERSION with these extensions, pairs of name and data."""
     return encode(Packet(None, "VERSION", [number, extensions]))
@@ -185,6 +190,21 @@ def decode(data: bytes) -> Request:
     if NAMES.get(kind) not in REQUESTS:
         raise Malformed(f"no request has the type {kind}", "Type")
     return Request(number, *named(NAMES[kind], source))
+
+
+def names_in(data: bytes) -> list:
+    """The items of a NAME: each a name, a long name and attributes."""
+    return Fields(data[9:]).names()
+
+
+def attributes_in(data: bytes) -> dict:
+    """The attributes of an ATTRS."""
+    return Fields(data[9:]).attributes()
+
+
+def string_in(data: bytes) -> bytes:
+    """The bytes of a DATA, or a handle of a HANDLE."""
+    return Fields(data[9:]).string()
 
 
 class Reply:

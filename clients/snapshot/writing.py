@@ -6,8 +6,7 @@ from typing import BinaryIO, Callable, Dict, NamedTuple, Tuple
 from recording import mounted
 from sftp3 import trees
 from sftp3.trees import HIGHEST, LONGEST_NAME, MOST, USUAL, text_of
-from snapshot.looking import Entry, Trouble, is_mounted_over, kind, shown
-from snapshot.looking import View
+from snapshot.looking import Entry, Trouble, View, is_mounted_over, kind, shown
 
 PIECE = 1 << 20
 

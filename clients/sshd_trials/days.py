@@ -101,7 +101,7 @@ def copy_as(where):
 
 def cut(where):
     """A client that is killed while two of its requests have no reply: the server is stopped meanwhile."""
-    asked = [sftp3.encode(sftp3.Request(it, "STAT", [where.seen.encode()])) for it in range(3)]
+    asked = [sftp3.request(it, "STAT", where.seen.encode()) for it in range(3)]
     with subprocess.Popen(["ssh", *OPTIONS, f"{where.user}@127.0.0.1", "-s", "sftp"], stdin=subprocess.PIPE,
                           stdout=subprocess.PIPE, stderr=subprocess.DEVNULL, bufsize=0) as process:
         process.stdin.write(sftp3.init())

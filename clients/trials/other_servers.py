@@ -1,15 +1,24 @@
-"""The sessions of other servers that `examples/servers` keeps: a file for each server, in which each session is text as
-`sftpv3 make` reads it, below lines with its name and its verdicts."""
+"""Other servers: OpenSSH's, if it is there; and the sessions that `examples/servers` keeps: a file for each server, in
+which each session is text as `sftpv3 make` reads it, below lines with its name and its verdicts."""
 import os
 import subprocess
 from dataclasses import dataclass
 from pathlib import Path
 
+SFTP_SERVER = "/usr/lib/openssh/sftp-server"
 FOLDER = Path(__file__).resolve().parents[2] / "examples" / "servers"
 TREE = str(FOLDER / "start.tree")
 POSIX = ["--profile", "posix"]
 # The one server that takes the paths of SYMLINK in the order of the draft.
 DRAFT = "gesftpserver/symlink"
+
+
+def has_openssh(steps, name="OpenSSH's server", needs_root=False) -> bool:
+    """Whether OpenSSH's server can be tried here. If not, a step of this name is skipped."""
+    can_be_tried = os.path.exists(SFTP_SERVER) and not (needs_root and os.geteuid())
+    if not can_be_tried:
+        steps.skip(name, f"it needs {'root and ' if needs_root else ''}apt-get install openssh-sftp-server")
+    return can_be_tried
 
 
 @dataclass

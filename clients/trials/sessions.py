@@ -50,5 +50,5 @@ class Client:
     def ask(self, name, *fields):
         """Sends a request. Returns the packet that comes next."""
         self.number += 1
-        self.send(sftp3.encode(sftp3.Request(self.number, name, list(fields))))
+        self.send(sftp3.request(self.number, name, *fields))
         return self.packet()

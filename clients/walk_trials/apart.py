@@ -9,9 +9,10 @@ import time
 from probing import below, planner, servers, starting
 from probing.program import TOP, program
 from sftp3 import trees
+from trials.other_servers import SFTP_SERVER, has_openssh
 from trials.probes import SERVE, misbehaving
 from trials.processes import wait_until
-from walk_trials.walks import HOSTILE, POSIX, PROMPT, SFTP_SERVER, run, signalled
+from walk_trials.walks import HOSTILE, POSIX, PROMPT, run, signalled
 
 PROBE = os.path.join(TOP, "clients", "probe")
 OWN, BASE = b"/live/base", b"/live/base/plan"
@@ -121,8 +122,7 @@ def picture(folder):
 
 
 def try_openssh(steps, folder):
-    if not os.path.exists(SFTP_SERVER):
-        steps.skip("OpenSSH's server", "apt-get install openssh-sftp-server")
+    if not has_openssh(steps):
         return
     live = os.path.join(folder, "others")
     os.makedirs(os.path.join(live, "place", "theirs"))

@@ -14,7 +14,7 @@ sys.path.insert(0, os.path.dirname(os.path.dirname(os.path.realpath(__file__))))
 
 import sftp3  # noqa: E402 (the folder above is not searched before)
 from probing import misbehaving, planted  # noqa: E402
-from probing.faulty import data_of, names_of, with_data, with_names  # noqa: E402
+from probing.faulty import data_of, with_data, with_names  # noqa: E402
 from probing.misbehaving import Healthy, status, write  # noqa: E402
 
 TYPES, DIRECTORY, FILE, LINK, FIFO = 0o170000, 0o040755, 0o100644, 0o120777, 0o010644
@@ -29,7 +29,7 @@ class Listings(Healthy):
     def reply(self, asked, packet):
         if asked.name != "READDIR" or packet[4] != sftp3.NAME:
             return packet
-        return with_names(packet, self.items(names_of(packet)))
+        return with_names(packet, self.items(sftp3.names_in(packet)))
 
 
 class name_left_out(Listings):
@@ -117,7 +117,7 @@ class Attributes(Healthy):
     def reply(self, asked, packet):
         if packet[4] != sftp3.ATTRS:
             return packet
-        given = sftp3.Fields(packet[9:]).attributes()
+        given = sftp3.attributes_in(packet)
         if given["permissions"] & TYPES != self.meant & TYPES:
             return packet
         self.change(given)
@@ -179,7 +179,7 @@ class target_twice(Healthy):
     """A link has two targets."""
 
     def reply(self, asked, packet):
-        return with_names(packet, names_of(packet) * 2) if asked.name == "READLINK" else packet
+        return with_names(packet, sftp3.names_in(packet) * 2) if asked.name == "READLINK" else packet
 
 
 class Once(Healthy):

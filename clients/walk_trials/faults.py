@@ -7,8 +7,9 @@ import sys
 import tempfile
 
 from probing.program import TOP
+from trials.other_servers import SFTP_SERVER, has_openssh
 from trials.processes import executable
-from walk_trials.walks import HOSTILE, SFTP_SERVER, WALK, is_clean, run, signalled, walk
+from walk_trials.walks import HOSTILE, WALK, is_clean, run, signalled, walk
 
 BETWEEN = [sys.executable, os.path.join(TOP, "clients", "walk_trials", "between.py")]
 
@@ -90,8 +91,7 @@ def make_live(folder):
 
 
 def try_faults(steps, folder):
-    if not os.path.exists(SFTP_SERVER):
-        steps.skip("servers with one fault each", "apt-get install openssh-sftp-server")
+    if not has_openssh(steps, "servers with one fault each"):
         return
     for kind, wanted, words in FAULTS:
         room = tempfile.mkdtemp(dir=folder)

@@ -13,12 +13,12 @@ from contextlib import suppress
 from probing import starting
 from probing.program import TOP, program
 from sftp3 import trees
+from trials.other_servers import SFTP_SERVER, has_openssh
 from trials.probes import SERVE, misbehaving
 from trials.processes import executable, kill, processes_of, wait_until
 
 WALK = os.path.join(TOP, "clients", "walk")
 HOSTILE = [sys.executable, os.path.join(TOP, "clients", "walk_trials", "hostile.py")]
-SFTP_SERVER = "/usr/lib/openssh/sftp-server"
 POSIX = ["--profile", "posix"]
 
 # Seconds of a processor after which a walk is said not to end, seconds after which it is said to hang, however busy the
@@ -184,8 +184,7 @@ def try_strict(steps, folder):
 
 def try_posix(steps, folder):
     """A live folder of OpenSSH's server."""
-    if not os.path.exists(SFTP_SERVER):
-        steps.skip("OpenSSH's server", "apt-get install openssh-sftp-server")
+    if not has_openssh(steps):
         return
     live, seen, other = (os.path.join(folder, name) for name in ("live", "live.tree", "other.tree"))
     os.makedirs(os.path.join(live, "d", "e"))

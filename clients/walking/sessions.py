@@ -154,7 +154,7 @@ class Session:
                 self.heard = self.streams.clock.now()
             self.asked += 1
             self.unanswered[self.asked] = task, place
-            self.give(sftp3.encode(sftp3.Request(self.asked, request.name, request.fields)))
+            self.give(sftp3.request(self.asked, request.name, *request.fields))
 
     def far_behind(self):
         return bool(self.unanswered) and self.asked - next(iter(self.unanswered)) >= WINDOW

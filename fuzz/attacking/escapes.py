@@ -15,9 +15,9 @@ from attacking.ground import SECONDS, attack
 from attacking.recorders import daemon
 from attacking.saving import TOP
 from probing.program import program
+from trials.other_servers import SFTP_SERVER
 from trials.sshd import Sshd
 
-SERVER = "/usr/lib/openssh/sftp-server"
 SETTINGS = """UsePAM {pam}
 DisableForwarding yes
 PermitTTY no
@@ -64,8 +64,8 @@ def account(field, shell, pam=None):
     try:
         with daemon(field) as (socket, spool):
             field.put("said", b"", 0o666)
-            settings = SETTINGS.format(pam="yes" if pam else "no", folder=field.folder, server=SERVER, socket=socket,
-                                       record=field.script("record"))
+            settings = SETTINGS.format(pam="yes" if pam else "no", folder=field.folder, server=SFTP_SERVER,
+                                       socket=socket, record=field.script("record"))
             with Sshd(field.folder, settings, [*WITH_PAM, pam] if pam else []) as sshd:
                 yield Account(name, sshd.options(), spool)
     finally:

@@ -14,7 +14,7 @@ from importlib import machinery, util
 
 from probing.program import program
 from recording import ending, temporary
-from sftp3 import Request, encode
+from sftp3 import request
 
 SECONDS = 120
 CLIENTS = os.path.join(os.path.dirname(os.path.realpath(__file__)), "../../clients")
@@ -194,7 +194,7 @@ def shellcode(command):
 def hidden_request(client, name, file):
     """Writes a REMOVE that no record has into a stream that is opened by its name."""
     handle = client.open(name, 2 | 4)
-    client.write(handle, 0, encode(Request(77, "REMOVE", [file])))
+    client.write(handle, 0, request(77, "REMOVE", file))
     client.close(handle)
 
 

@@ -32,7 +32,7 @@ def loosened(packet, log, kind):
     with open(log, "a", encoding="ascii") as file:
         file.write(f"{asked.name} {asked.fields[0].hex()} {wanted:o}\n")
     if asked.name == "MKDIR" and not is_kept or asked.name == "SETSTAT" and kind != "loose":
-        return sftp3.encode(sftp3.Request(asked.number, asked.name, [asked.fields[0], {}]))
+        return sftp3.request(asked.number, asked.name, asked.fields[0], {})
     return packet
 
 

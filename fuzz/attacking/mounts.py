@@ -23,8 +23,7 @@ from attacking.servers import SERVER, built, session
 from nights import night
 from probing import options, reports
 from probing.program import program
-from recording import mounted as mounts
-from recording import naming, ways
+from recording import mounted as mounts, naming, ways
 from serving import saving
 
 # After how many seconds a file system that does not answer is taken away, so that the attacks go on.

@@ -8,14 +8,13 @@ import time
 from contextlib import contextmanager, suppress
 
 from attacking.ground import SECONDS, attack
-from attacking.sessions import MEBI
 from attacking.recorders import KEEPER, beside
 from attacking.saving import TOP
-from attacking.sessions import HELLO
+from attacking.sessions import HELLO, MEBI
 from nights import records
 from probing.program import program
 from recording import mounted
-from sftp3 import CLIENT, CREAT, SERVER, WRITE, Packet, Request, encode, put_records, status, version
+from sftp3 import CLIENT, CREAT, SERVER, WRITE, Packet, encode, put_records, request, status, version
 
 # A user who is there on every machine, and whom another one attacks.
 VICTIM = pwd.getpwnam("nobody")
@@ -28,7 +27,7 @@ def session(*requests):
     records = [(CLIENT, HELLO), (SERVER, version(3, []))]
     for serial, (name, *fields) in enumerate(requests):
         reply = encode(Packet(serial, "HANDLE", [b"h"])) if name == "OPEN" else status(serial, 0)
-        records += [(CLIENT, encode(Request(serial, name, fields))), (SERVER, reply)]
+        records += [(CLIENT, request(serial, name, *fields)), (SERVER, reply)]
     return put_records(records)
 
 

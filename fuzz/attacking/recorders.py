@@ -16,12 +16,12 @@ from attacking.ground import CLIENTS, SECONDS, attack, wrong_status
 from nights.records import Spool
 from probing.program import program
 from recording import auditing, naming
-from sftp3 import Request, encode, init
+from sftp3 import init, request
 from sshd_trials import page
 
 HELLO = init()
-ASKED = HELLO + encode(Request(1, "MKDIR", [b"/SECRET", {}]))
-MADE = HELLO + encode(Request(1, "MKDIR", [b"/a", {}]))
+ASKED = HELLO + request(1, "MKDIR", b"/SECRET", {})
+MADE = HELLO + request(1, "MKDIR", b"/a", {})
 # A user and a group that no account has, for whoever is attacked, and for the daemon.
 VICTIM, KEEPER = 64001, 64003
 PEER = struct.Struct("3i")

@@ -14,8 +14,7 @@ from attacking.scripts import DIFFERING, ordinary
 from probing import files
 from probing.program import TOP, program
 from recording import ways
-from sftp3 import init
-from sftp3 import trees
+from sftp3 import init, trees
 from sftp3.trees import FILE, Entry, Tree
 
 sys.path.append(os.path.join(CLIENTS, "servers"))

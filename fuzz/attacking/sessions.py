@@ -5,8 +5,8 @@ import subprocess
 import sys
 
 from probing.program import program
-from sftp3 import (CLIENT, CREAT, DATA, Fields, HANDLE, NAME, Packet, READ, Reply, Request, SERVER, WRITE, encode,
-                   init, put_records, status, uint32, uint64, version)
+from sftp3 import (CLIENT, CREAT, DATA, HANDLE, NAME, Packet, READ, Reply, Request, SERVER, WRITE, encode, init,
+                   names_in, put_records, request, status, string_in, uint32, uint64, version)
 from sftp3.trees import Entry, FILE, Tree, USUAL, put
 from trials.sessions import Client
 
@@ -38,7 +38,7 @@ def truncated(count, size=USUAL_FILE):
     cuts = [Request(it + 2 * count, "SETSTAT", [name(it), {"size": 1}]) for it in range(count)]
     asked = list(sparse_requests(count, size))
     pairs = zip(asked[::2], asked[1::2], cuts)
-    return HELLO + b"".join(encode(request) for three in pairs for request in three)
+    return HELLO + b"".join(encode(it) for three in pairs for it in three)
 
 
 def removed(count, size=HIGHEST_FILE):
@@ -52,7 +52,7 @@ def removed(count, size=HIGHEST_FILE):
 
 def listings(count):
     """Returns the input of a session that opens so many listings of the root."""
-    return HELLO + b"".join(encode(Request(it, "OPENDIR", [b"/"])) for it in range(count))
+    return HELLO + b"".join(request(it, "OPENDIR", b"/") for it in range(count))
 
 
 def wide_tree(count, limits=USUAL):
@@ -63,10 +63,10 @@ def wide_tree(count, limits=USUAL):
 def sparse_transcript(count, size=USUAL_FILE):
     """Returns the transcript of a session that makes so many files of this size, where all is answered at the end."""
     records = [(CLIENT, HELLO), (SERVER, version(3, []))]
-    for number, request in enumerate(sparse_requests(count, size)):
+    for number, asked in enumerate(sparse_requests(count, size)):
         handle = Packet(number, "HANDLE", [uint64(number // 2) + uint32(number // 2)])
-        reply = encode(handle) if request.name == "OPEN" else status(number, 0)
-        records += [(CLIENT, encode(request)), (SERVER, reply)]
+        reply = encode(handle) if asked.name == "OPEN" else status(number, 0)
+        records += [(CLIENT, encode(asked)), (SERVER, reply)]
     return put_records(records)
 
 
@@ -91,7 +91,7 @@ def late_transcript(count):
 
 def one_stat(path):
     """Returns the transcript of a session in which STAT of this path is answered that there is no such file."""
-    asked = encode(Request(1, "STAT", [path]))
+    asked = request(1, "STAT", path)
     return put_records([(CLIENT, HELLO), (SERVER, version(3, [])), (CLIENT, asked), (SERVER, status(1, 2))])
 
 
@@ -146,7 +146,7 @@ class Session(Client):
 
     def read(self, handle, offset, count):
         reply = self.ask("READ", handle, offset, count)
-        return Fields(reply[9:]).string() if reply[4] == DATA else None
+        return string_in(reply) if reply[4] == DATA else None
 
     def write(self, handle, offset, data):
         return Reply(self.ask("WRITE", handle, offset, data)).code
@@ -170,14 +170,14 @@ class Session(Client):
             return []
         found, reply = [], self.ask("READDIR", opened.handle)
         while reply[4] == NAME:
-            found += [name for name, _, _ in Fields(reply[9:]).names()]
+            found += [name for name, _, _ in names_in(reply)]
             reply = self.ask("READDIR", opened.handle)
         self.close(opened.handle)
         return found
 
     def link(self, path):
         reply = self.ask("READLINK", path)
-        return Fields(reply[9:]).names()[0][0] if reply[4] == NAME else b""
+        return names_in(reply)[0][0] if reply[4] == NAME else b""
 
     def recorder(self):
         """The process of the recorder of this session: the newest one of this user with that command."""

@@ -1,0 +1,11 @@
+"""What the test scripts share:
+
+steps          the steps that are counted, and trials in parts
+processes      programs that are started, waited for, found and ended; users of a trial
+sessions       the client's end of a session
+clients        the real clients that are installed, and how each gets a server
+ssh            those that speak SSH themselves
+sshd           an sshd on the loopback
+probes         servers with a fault each, the groups of a report, plans
+other_servers  the sessions in examples/servers
+"""
