@@ -188,6 +188,23 @@ def wrong_removal(program, room):
         yield f"install: below a file it ended with status {status}: {printed}"
 
 
+def wrong_prefixes(program, room):
+    """Installs below folders of odd names: what is installed runs, and else nothing is."""
+    for name, wanted in (("a b", 0), ("\u00e4+@~", 0), ("a'b", 2), ("a&b", 2), ("a|b", 2), ("a\\b", 2), ("a\nb", 2),
+                         ("a%b", 2), ("a\udcffb", 2)):
+        prefix = room / "odd" / name
+        status, printed = called(["./install", "--prefix", prefix], program)
+        if status != wanted or bool(printed) != (wanted == 2) or prefix.exists() != (wanted == 0):
+            yield f"install: --prefix {prefix!r} ended with status {status}: {printed}"
+        elif wanted == 0:
+            status, printed = alone([prefix / "bin/sftpv3-tree", "--chroot", "--out", room / "odd.tree", room / "live"],
+                                    room)
+            units = [f"ExecStart=\"{prefix}/bin/sftpv3-{it}\" " for it in ("nightly", "recordd")]
+            texts = "".join(it.read_text() for it in (prefix / "lib/systemd/system").glob("*.service"))
+            if status or not all(it in texts for it in units):
+                yield f"install: below {prefix} sftpv3-tree ended with status {status}: {printed}; {texts}"
+
+
 def wrong_package(program, room):
     """Makes a Debian package twice, where that can be done: both are the same, and lintian has nothing against them."""
     if not shutil.which("dpkg-deb"):
@@ -208,6 +225,21 @@ def wrong_package(program, room):
             yield f"install: lintian says of the package: {printed}"
 
 
+def wrong_unpacking(program, room):
+    """Has dpkg put the package into a folder of its own, without a change of root, and remove it from there."""
+    if os.geteuid() != 0 or not shutil.which("dpkg"):
+        return
+    system = room / "system"
+    for name in ("info", "updates", "triggers"):
+        (system / "var/lib/dpkg" / name).mkdir(parents=True)
+    (system / "var/lib/dpkg/status").write_text("")
+    words = ["dpkg", f"--root={system}", "--force-depends", "--force-script-chrootless"]
+    for more, wanted in ((["-i", *room.glob("deb/sftpv3_*.deb")], True), (["-r", "sftpv3"], False)):
+        status, printed = called([*words, *more], program)
+        if status or (system / "usr/bin/sftpv3").exists() != wanted or (system / "usr").exists() != wanted:
+            yield f"install: dpkg --root {more} ended with status {status}: {printed}"
+
+
 def skipped():
     """Yields a line for each program that is not there, and what is therefore not checked."""
     for name, part in TOOLS.items():
@@ -224,7 +256,8 @@ def wrong_installation(program, room):
     share = prefix / "share"
     return [*wrong_texts(program, share), *wrong_syntax(share), *wrong_completion(share), *wrong_mode(prefix),
             *wrong_script_texts(prefix, room), *wrong_scripts(prefix, room), *wrong_recorder(prefix, room),
-            *wrong_serve(prefix, room), *wrong_removal(program, room), *wrong_package(program, room)]
+            *wrong_serve(prefix, room), *wrong_removal(program, room), *wrong_prefixes(program, room),
+            *wrong_package(program, room), *wrong_unpacking(program, room)]
 
 
 def wrong_attacks(program):

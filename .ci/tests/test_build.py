@@ -65,6 +65,23 @@ class Failing(unittest.TestCase):
         self.assertEqual(said.getvalue(), "sftpv3: there is no rt in the PATH: the Rattle toolchain, which has it, "
                                           "proves and builds the program\n")
 
+    def test_what_changes_during_the_build_is_newer_than_it(self):
+        module = build()
+        with tempfile.TemporaryDirectory() as folder, mock.patch.object(shutil, "which", return_value="rt"):
+            built, changed = Path(folder, "sftpv3.built"), Path(folder, "changed.rt")
+
+            def proved(*_):
+                time.sleep(0.1)
+                changed.write_text("")
+                time.sleep(0.1)
+                built.write_text("")
+                return True
+            with mock.patch.object(module, "build", proved):
+                self.assertEqual(module.main([folder, "sftpv3"]), 0)
+                self.assertLess(built.stat().st_mtime, changed.stat().st_mtime)
+                with mock.patch.object(os, "utime", side_effect=PermissionError):
+                    self.assertEqual(module.main([folder, "sftpv3"]), 0)
+
 
 class Callers(unittest.TestCase):
     """`./sftpv3` and `./install`, with a script in place of `.ci/build`."""
@@ -85,6 +102,29 @@ class Callers(unittest.TestCase):
             for status, wanted in ((1, 3), (3, 3), (127, 3), (129, 129), (130, 130), (143, 143)):
                 with self.subTest(name, status=status):
                     self.assertEqual(self.status_of(name, status), wanted)
+
+    def test_a_source_of_an_old_date_is_built(self):
+        with tempfile.TemporaryDirectory() as folder:
+            top = Path(folder)
+            shutil.copy(FOLDER.parent / "sftpv3", top)
+            source = top / "crates/one/src/lib.rt"
+            for it in (source, top / "crates.txt", top / "HANDLES", top / ".ci/build", top / "out/sftpv3"):
+                it.parent.mkdir(parents=True, exist_ok=True)
+                it.write_text("#!/bin/sh\necho $0 >&2\n")
+                it.chmod(0o755)
+            time.sleep(0.1)
+            (top / "out/sftpv3.built").write_text("hash\none\n")
+            for is_changed in (False, True):
+                if is_changed:
+                    # as `tar -x`, `cp -p` and `rsync -t` put another version there
+                    (top / "new.rt").write_text("other")
+                    os.utime(top / "new.rt", (1, 1))
+                    os.replace(top / "new.rt", source)
+                    os.utime(source.parent, (1, 1))
+                ran = subprocess.run([top / "sftpv3"], stdin=subprocess.DEVNULL, stderr=subprocess.PIPE, text=True,
+                                     check=False)
+                self.assertEqual(("/.ci/build\n" in ran.stderr, ran.stderr.endswith("/out/sftpv3\n")),
+                                 (is_changed, True), ran.stderr)
 
 
 if __name__ == "__main__":

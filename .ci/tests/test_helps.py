@@ -46,6 +46,24 @@ finally:
 """
 
 
+# Runs a script of which no module behind recording.standard is there, or finds memory.
+LACKS = """
+import runpy, sys
+script, kind = sys.argv[1:]
+class Finder:
+    found = []
+    def find_spec(self, name, path, target=None):
+        self.found += [name] if self.found or name == "recording.signals" else []
+        if len(self.found) > 1:
+            raise {"MemoryError": MemoryError, "ImportError": ImportError}[kind]
+sys.meta_path.insert(0, Finder())
+sys.argv = [script, "--help"]
+runpy.run_path(script, run_name="__main__")
+"""
+
+# What stands in a user's folder of modules: to import it is a mistake.
+SPRUNG = """raise SystemExit("a module of the user's was run")\n"""
+
 # Runs a script that gets SIGTERM behind its work, before the interpreter ends.
 ENDS = """
 import atexit, os, runpy, signal, sys
@@ -167,6 +185,18 @@ def struck_at_end(script: Path) -> str:
     return ""
 
 
+def without_module(script: Path) -> str:
+    """Returns what is wrong with a script whose modules cannot be read: that is no verdict."""
+    for kind in ("ImportError", "MemoryError"):
+        ran = subprocess.run([sys.executable, "-B", "-c", LACKS, script, kind], stdin=subprocess.DEVNULL,
+                             stdout=subprocess.DEVNULL, stderr=subprocess.PIPE, timeout=LONG)
+        said = ran.stderr.decode()
+        is_said = said == f"{script.name}: out of memory\n" if kind == "MemoryError" else "\nImportError\n" in said
+        if ran.returncode != 3 or not is_said:
+            return f"{kind}: status {ran.returncode}, {said[-300:]!r}"
+    return ""
+
+
 def failed(script: Path) -> str:
     """Returns what is wrong with a script in which something happens that it does not foresee: that is no verdict."""
     status, said = run_by(FAILS, script)
@@ -194,10 +224,10 @@ def interrupted(script: Path) -> str:
     return ""
 
 
-def wrong(script: Path, word: str) -> str:
+def wrong(script: Path, word: str, **settings: str) -> str:
     """Returns what is wrong with the answer of a script. What it starts gets no program, so nothing is proved."""
     started = subprocess.Popen([script, word], stdin=subprocess.DEVNULL, stdout=subprocess.PIPE,
-                               stderr=subprocess.PIPE, env={**os.environ, "SFTPV3": "/bin/false"},
+                               stderr=subprocess.PIPE, env={**os.environ, "SFTPV3": "/bin/false", **settings},
                                start_new_session=True)
     try:
         said, why = started.communicate(timeout=LONG)
@@ -218,6 +248,24 @@ class Helps(unittest.TestCase):
         self.assertGreater(len(found), 30)
         with futures.ThreadPoolExecutor(8) as pool:
             told = dict(zip(found, pool.map(lambda it: wrong(it, "--help"), found)))
+        self.assertEqual({str(it.relative_to(TOP)): why for it, why in told.items() if why}, {})
+
+    def test_settings_of_python_change_no_command(self):
+        with tempfile.TemporaryDirectory() as room:
+            for name in ("argparse", "os", "recording", "subprocess", "tempfile"):
+                (Path(room) / f"{name}.py").write_text(SPRUNG)
+            found = {it: wrong(it, "--help", PYTHONOPTIMIZE="2", PYTHONPATH=room)
+                     for it in [*(TOP / "clients" / it for it in COMMANDS), *servers()]}
+            texts = subprocess.run([TOP / "packaging/commands", room, *COMMANDS], stdin=subprocess.DEVNULL, timeout=LONG,
+                                   env={**os.environ, "PYTHONOPTIMIZE": "2", "PYTHONPATH": room},
+                                   stdout=subprocess.PIPE, stderr=subprocess.STDOUT)
+        self.assertEqual({str(it.relative_to(TOP)): why for it, why in found.items() if why}, {})
+        self.assertEqual((texts.returncode, texts.stdout), (0, b""))
+
+    def test_a_module_that_cannot_be_read_is_no_verdict(self):
+        found = [TOP / "clients" / it for it in COMMANDS] + servers()
+        with futures.ThreadPoolExecutor(8) as pool:
+            told = dict(zip(found, pool.map(without_module, found)))
         self.assertEqual({str(it.relative_to(TOP)): why for it, why in told.items() if why}, {})
 
     def test_each_script_says_that_it_cannot_print(self):

@@ -12,7 +12,6 @@ So a server is tested whose files nobody can reset or see: each session is judge
 """
 import copy
 import os
-import sys
 import time
 from contextlib import suppress
 
@@ -304,7 +303,7 @@ class Worker(limits.Worker):
         finally:
             left = Clearing(base.own).run(self.server, self.timeout, stop)
             for line in left.split("\n") if left else ():
-                program.say(f"probe: {line}", sys.stderr)
+                program.tell(f"probe: {line}")
         self.infer(session, {step.number for step in base.looking}, stop)
         return session, verdicts.judge(self.auditor, self.kept_tree, session, seed, stop)
 

@@ -68,15 +68,19 @@ def temporary_folder():
     return found
 
 
-def say(text, stream=None):
-    """Prints a line that may have words of a server or of a file: no sign of it does anything to a terminal."""
-    print(packets.line(str(text)), file=stream or sys.stdout, flush=True)
+def say(text):
+    """Prints a line that may have words of a server or of a file: no sign of it does anything to a terminal. The error
+    of a standard output that does not take it names it."""
+    try:
+        print(packets.line(str(text)), flush=True)
+    except OSError as error:
+        raise OSError(error.errno, error.strerror, "standard output") from None
 
 
 def tell(text):
-    """Says a line to standard error, unless nobody can be told."""
+    """Says such a line to standard error, unless nobody can be told."""
     with suppress(OSError):
-        say(text, sys.stderr)
+        print(packets.line(str(text)), file=sys.stderr, flush=True)
 
 
 def complain(name, why, status):

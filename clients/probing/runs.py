@@ -1,6 +1,5 @@
 """One run of the probe: plays the sessions, shrinks what differs, and reports."""
 import os
-import sys
 import time
 from contextlib import suppress
 from dataclasses import dataclass, field
@@ -162,7 +161,7 @@ class Run:
             elif value is not None:
                 unknown.append(option)
         if unknown:
-            program.say(f"probe: this program audits strictly: it has no {', '.join(unknown)}", sys.stderr)
+            program.tell(f"probe: this program audits strictly: it has no {', '.join(unknown)}")
         return words
 
     def try_profile(self, auditor, tree_file):
@@ -219,7 +218,7 @@ class Run:
         outcome.played.groups = list(dict.fromkeys(group for _, group, _ in found))
         self.tally.version = self.tally.version or outcome.version
         if outcome.played.ownerless and not self.tally.ownerless:
-            program.say(reports.NO_OWNERS, sys.stderr)
+            program.tell(reports.NO_OWNERS)
         self.tally.add(outcome.played)
 
     def shrink(self):
@@ -270,7 +269,7 @@ class Run:
             reports.print_group(group.number, group)
         vain = len(self.tally.played) - self.tally.sessions
         if vain:
-            program.say(f"probe: in {vain} session{'s' if vain != 1 else ''} no request was played", sys.stderr)
+            program.tell(f"probe: in {vain} session{'s' if vain != 1 else ''} no request was played")
         if found or self.tally.left or not self.vain():
             if found:
                 program.say("")

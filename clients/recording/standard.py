@@ -2,6 +2,7 @@
 and that other processes of the same user may neither trace it nor open its memory and files."""
 from __future__ import annotations
 
+import errno
 import os
 import sys
 
@@ -16,6 +17,7 @@ def begin():
     # where it is ignored, each process that the script starts seems to have ended with status 0
     signals.signal(signals.SIGCHLD, signals.SIG_DFL)
     signals.pthread_sigmask(signals.SIG_SETMASK, ())
+    sys.excepthook = end_unforeseen
 
 
 def open_standard_files():
@@ -38,6 +40,21 @@ def open_nothing():
     try:
         os.set_inheritable(os.open(os.devnull, os.O_RDWR), True)
     except OSError:
+        os._exit(3)
+
+
+def end_unforeseen(kind, error, trace):
+    """Ends a script by an error that nothing in it awaits, such as a module that cannot be read: with status 3, since 1
+    is a verdict."""
+    if not issubclass(kind, Exception):
+        sys.__excepthook__(kind, error, trace)
+        return
+    try:
+        if issubclass(kind, MemoryError) or getattr(error, "errno", None) == errno.ENOMEM:
+            sys.stderr.write(f"{os.path.basename(sys.argv[0])}: out of memory\n")
+        else:
+            sys.__excepthook__(kind, error, trace)
+    finally:
         os._exit(3)
 
 

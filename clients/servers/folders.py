@@ -30,6 +30,9 @@ HIGHEST = 2 ** 32 - 2
 # How old, in seconds, a folder is at least that is taken for one that a killed run left.
 LEFT = 60
 
+# How many bytes are free on the disk at least when a session begins: more than any plan of the probe writes.
+ROOM = 1 << 26
+
 DIRECTORY = os.O_RDONLY | os.O_DIRECTORY | os.O_NOFOLLOW | os.O_CLOEXEC
 NEW_FILE = os.O_WRONLY | os.O_CREAT | os.O_EXCL | os.O_NOFOLLOW
 
@@ -40,6 +43,15 @@ class Bad(Exception):
 
 def tell(text):
     print(f"{os.path.basename(sys.argv[0])}: {text}", file=sys.stderr)
+
+
+def check_room(root):
+    """Refuses a disk, by the descriptor of a directory, on which the server would refuse what is right for want of
+    room. Some file systems do not say what is free."""
+    found = os.fstatvfs(root)
+    free = found.f_bfree * found.f_frsize
+    if found.f_blocks and free < ROOM:
+        raise temporary.Unfit(f"{temporary.named()} has {free:,} bytes free, and a session needs {ROOM:,} (TMPDIR)")
 
 
 class Owned(NamedTuple):
@@ -268,6 +280,7 @@ class Folder:
         self.root = os.open(ROOT, DIRECTORY, dir_fd=self.lock)
         builder = Builder(self.root, self.has_mount)
         fill(builder, tree_file)
+        check_room(self.root)
         if builder.left_out:
             tell(f"set-id bits left out: {builder.left_out} (this system gives no mounts of one's own)")
         if builder.lowered:

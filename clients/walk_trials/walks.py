@@ -408,7 +408,8 @@ def try_no_folder(steps, folder):
     session = os.path.join(TOP, "examples", "wrong-byte.transcript")
     for name, words, wanted, what in (
             ("walk", ["--to", to, "--", *sent], 0, "inferred"), ("tree", ["--out", to, live], 0, " entries"),
-            ("walk", ["--to", "seen.tree", "--", *sent], 3, "cannot write seen.tree: there is no folder ."),
+            ("walk", ["--to", "seen.tree", "--", *sent], 3,
+             "cannot write seen.tree: the folder in which this was started is gone"),
             ("page", [session, "-o", "x.html"], 3, "x.html: the folder in which this was started is gone"),
             ("page", ["x", "-o", "y"], 3, "x: No such file"), ("page", ["x", "-o", "./x"], 2, "name one file")):
         gone = tempfile.mkdtemp(dir=folder)
