@@ -1,6 +1,6 @@
 """Faults of servers in the times of files and directories."""
 import sftp3
-from probing.faulty import SETS, Attributes, Fault, names_of, with_names
+from probing.faulty import SETS, Attributes, Fault, with_names
 
 # Another time, as a clock would have it.
 NOW = 1_800_000_001
@@ -143,5 +143,5 @@ class listed_times(Timed):
         if asked.name != "READDIR" or reply[4] != sftp3.NAME:
             return [reply]
         items = [(name, long, {**given, "times": (given["times"][0],) * 2} if "times" in given else given)
-                 for name, long, given in names_of(reply)]
+                 for name, long, given in sftp3.names_in(reply)]
         return [with_names(reply, items)]

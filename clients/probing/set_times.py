@@ -190,17 +190,15 @@ class Session:
 
     def shown(self, request: sftp3.Request, packet: bytes) -> Iterator[Tuple[int, int]]:
         """The times that a reply shows of what is followed."""
-        fields, followed = sftp3.Fields(packet[9:]), self.followed
-        given: Iterator[dict] = iter(())
-        if packet[4] == sftp3.ATTRS and request.name in ("STAT", "LSTAT"):
-            given = (it for it in [fields.attributes()] if request.fields[0] in followed.paths and
-                     (request.name == "STAT" or is_no_link(it)))
-        elif packet[4] == sftp3.ATTRS and request.name == "FSTAT":
-            given = (it for it in [fields.attributes()] if request.fields[0] in followed.handles)
-        elif packet[4] == sftp3.NAME and request.name == "READDIR" and request.fields[0] in self.opened:
-            folder = self.opened[request.fields[0]]
-            given = (it for name, _, it in fields.names()
-                     if posixpath.join(folder, name) in followed.paths and is_no_link(it))
+        thing, given = request.fields[0], []
+        if packet[4] == sftp3.ATTRS and request.name in ("STAT", "LSTAT") and thing in self.followed.paths:
+            found = sftp3.attributes_in(packet)
+            given = [found] if request.name == "STAT" or is_no_link(found) else []
+        elif packet[4] == sftp3.ATTRS and request.name == "FSTAT" and thing in self.followed.handles:
+            given = [sftp3.attributes_in(packet)]
+        elif packet[4] == sftp3.NAME and request.name == "READDIR" and thing in self.opened:
+            given = [it for name, _, it in sftp3.names_in(packet)
+                     if posixpath.join(self.opened[thing], name) in self.followed.paths and is_no_link(it)]
         return (it["times"] for it in given if "times" in it)
 
 
