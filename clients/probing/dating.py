@@ -70,4 +70,4 @@ def dated_folder(p):
 
 
 # Each session has one of them: as in `planner.PERIODS`.
-PERIODS = [("times", dated_file, 3, 1), ("times", dated_upload, 3, 2), ("times", dated_folder, 3, 0)]
+PERIODS = [("transfers", dated_file, 3, 1), ("transfers", dated_upload, 3, 2), ("transfers", dated_folder, 3, 0)]
