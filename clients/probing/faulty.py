@@ -25,6 +25,9 @@ OWN_IDS = 0xF0000000
 class Fault(planted.Bug):
     """A server with one fault. A fault overrides `alter`, `ask` or `answer`, or what a class below leaves to it."""
 
+    # The options that `serve`, the sound server behind it, needs to show it.
+    OPTIONS: tuple = ()
+
     def __init__(self):
         super().__init__()
         # requests by their ids, and those that opened what is open, by its handle; how far a path's file was written

@@ -116,6 +116,8 @@ class Groups:
 def key_of(difference):
     """What differences of one group have in common: the request, the causes, what is expected, and what was found."""
     verdict = difference.verdict
+    if verdict.kind == "Times":
+        return difference.name, (), difference.expected, difference.found
     if verdict.kind in ("Unanswered", "NotStarted", "Ended"):
         found = "no reply in time" if difference.session.silent() else difference.found
         return difference.name, (), difference.expected, found
@@ -227,7 +229,7 @@ def told(verdict_kind):
 CHANGES = {"WRITE", "SETSTAT", "FSETSTAT", "REMOVE", "MKDIR", "RMDIR", "RENAME", "SYMLINK", "POSIX-RENAME", "HARDLINK"}
 
 # What may differ of a thing, and those of these requests that change its bytes.
-BYTES, PATH, PRESENCE = "bytes", "path", "whether it is there"
+BYTES, PATH, PRESENCE, TIMES = "bytes", "path", "whether it is there", "times"
 OF_BYTES = {"WRITE", "SETSTAT", "FSETSTAT", "OPEN"}
 
 # Requests that lead to things by paths.
@@ -294,6 +296,8 @@ def changes_by_opening(steps, last):
 
 def of_what(group):
     """What of a thing differs, or None if that says nothing of its state."""
+    if group.first.verdict.kind == "Times":
+        return TIMES
     if group.request == "READ":
         return BYTES
     if group.request in ("READLINK", "REALPATH"):

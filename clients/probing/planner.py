@@ -13,7 +13,7 @@ import itertools
 import random
 
 import sftp3
-from probing import crossings, features, meetings, pairs, refusals, renewals, scenes, transfers
+from probing import crossings, dating, features, meetings, pairs, refusals, renewals, scenes, transfers
 from probing.transfers import listing
 from probing.model import DIRECTORY, FILE, LINK, Model, apply
 from probing.plans import Handle, Step
@@ -294,14 +294,16 @@ def ids_of(seed):
 def plan(seed, tree, count, skip=()):
     """The steps of a session: so many of small scenes, besides those of large ones and of the end."""
     numbers = ids_of(seed)
-    small, large, further = (Planner(word, tree, skip, numbers) for word in (seed, f"large {seed}", f"further {seed}"))
+    small, large, further, dated = (Planner(word, tree, skip, numbers)
+                                    for word in (seed, f"large {seed}", f"further {seed}", f"dated {seed}"))
     between, steps = large.large(large_scenes(seed, large.random)), []
     for step in small.small(count):
         steps.append(step)
         steps += itertools.islice(between, large.random.randint(0, 8))
     steps += between
     steps += further.large(of_seed(seed, crossings.PERIODS))
-    for planner in (large, small, further):
+    steps += dated.large(of_seed(seed, dating.PERIODS))
+    for planner in (large, small, further, dated):
         steps += planner.large([("read-back", read_back)])
     return steps
 

@@ -7,8 +7,12 @@ import sys
 from probing.plans import Step
 from probing.program import TOP, program
 
-# The server whose place those with a fault take.
-SERVE = [program(), "serve", "--tree", "{tree}"]
+def serve(*options):
+    """The command of the server whose place those with a fault take."""
+    return [program(), "serve", *options, "--tree", "{tree}"]
+
+
+SERVE = serve()
 
 
 def stand_in(module, name, server=SERVE):
@@ -24,8 +28,9 @@ def planted(name):
     return stand_in("planted", name)
 
 
-def faulty(name):
-    return stand_in("faults", name)
+def faulty(name, *options):
+    """The same, with the options that the server behind it needs."""
+    return stand_in("faults", name, serve(*options))
 
 
 def groups_of(report):

@@ -7,6 +7,7 @@ ghost use Rattle.sftp_files.specs.declared.messages.Ending.TheVariants as ending
 
 use crate::faulty::{Found, START};
 use crate::trees::rows_in_view;
+use crate::twice::spare_input;
 use sftp_files::{
     Content, Ending, Failure, FileSink, ImportOptions, Keeping, Meter, STANDARD_INPUT,
     STANDARD_OUTPUT, System, Watched, write_content, write_flushed,
@@ -37,6 +38,7 @@ pub fn import<'a, R: System + Clock, I: Read, E: Write + IsTerminal>(
 ) -> Result<Ending, Failure<'a>>
     ensures { IfOk result (λ ending. ending ≡ endings.Done) }
 {
+    spare_input(rt, options.file)?;
     let mut meter = Meter::new(rt, options.memory)?;
     let imported = taken_in_view(rt, options.taking, &mut meter, input, console);
     drop(meter);
@@ -250,17 +252,16 @@ fn archive_failure<'a>(alloc: Global, error: &ImportError, start: &[u8]) -> Fail
     }
 }
 
-/// What is said of the first bytes beside a refusal: what they are, if the first entry has nothing that can be taken.
-fn found_instead(entry: u32, refusal: Refusal, start: &[u8]) -> Found<'_> {
+/// What the first bytes are beside a refusal, if the first entry has nothing that can be taken.
+fn found_instead(entry: u32, refusal: Refusal, start: &[u8]) -> Found {
+    if entry != 1 {
+        return Found::Nothing;
+    }
     match refusal {
-        Refusal::Truncated | Refusal::Checksum | Refusal::Number | Refusal::UnknownType => Found {
-            start,
-            is_told: entry == 1,
-        },
-        _ => Found {
-            start,
-            is_told: false,
-        },
+        Refusal::Truncated | Refusal::Checksum | Refusal::Number => Found::of_start(start),
+        // The checksum is right, so the bytes are a header of tar.
+        Refusal::UnknownType => Found::of_header(start),
+        _ => Found::Nothing,
     }
 }
 
@@ -293,7 +294,7 @@ fn refused(
     entry: u32,
     path: &[u8],
     refusal: Refusal,
-    found: Found<'_>,
+    found: Found,
 ) -> Result<String, AllocError> {
     if path.is_empty() {
         format!(in alloc; "archive: entry {entry}: {refusal}{found}")

@@ -16,6 +16,9 @@ const MARK_PLACE: usize = 257;
 /// The mark of an archive.
 const MARK: &[u8] = b"ustar";
 
+/// Where it has the type of its first member.
+const TYPE_PLACE: usize = 156;
+
 /// What a subcommand takes a file for.
 #[derive(Clone, Copy)]
 enum Role {
@@ -284,50 +287,49 @@ fn is_tree_file(start: &[u8]) -> bool {
         || start.starts_with(b"SFTREE03")
 }
 
-/// What standard input is, by its first bytes, where no archive begins with them. It is a line, if it is to be told.
+/// What is found on standard input in place of an archive that an import takes. It is a line of its own, if anything.
 #[derive(Clone, Copy)]
-pub(crate) struct Found<'a> {
-    pub(crate) start: &'a [u8],
-    pub(crate) is_told: bool,
+pub(crate) enum Found {
+    Nothing,
+    /// A file of another kind.
+    Other(Format),
+    /// An archive that GNU tar made with this option.
+    MadeWith(&'static str),
 }
 
-impl fmt::Display for Found<'_> {
-    fn fmt<W: fmt::Write>(&self, f: &mut fmt::Formatter<W>) -> fmt::Result {
-        if !self.is_told {
-            return Ok(());
+impl Found {
+    /// What a file with these first bytes is, if it is no archive.
+    pub(crate) fn of_start(start: &[u8]) -> Found {
+        match format_of(start) {
+            None | Some(Format::Archive) => Found::Nothing,
+            Some(format) => Found::Other(format),
         }
-        match format_of(self.start) {
-            Some(Format::Archive) => put_way(f, way_of(self.start)),
-            Some(format) => {
+    }
+
+    /// By which option an archive was made that begins with this header, if an import does not take what it makes.
+    pub(crate) fn of_header(header: &[u8]) -> Found {
+        match header.get(TYPE_PLACE) {
+            Some(b'D') => Found::MadeWith("--incremental or --listed-incremental"),
+            Some(b'M') => Found::MadeWith("--multi-volume"),
+            Some(b'V') => Found::MadeWith("--label"),
+            _ => Found::Nothing,
+        }
+    }
+}
+
+impl fmt::Display for Found {
+    fn fmt<W: fmt::Write>(&self, f: &mut fmt::Formatter<W>) -> fmt::Result {
+        match self {
+            Found::Nothing => Ok(()),
+            Found::Other(format) => {
                 let text = format.text();
-                let advice = advice(format, Role::Archive);
+                let advice = advice(*format, Role::Archive);
                 write!(f, "\nsftpv3: {STANDARD_INPUT} is {text}{advice}")
             }
-            None => Ok(()),
+            Found::MadeWith(option) => write!(
+                f,
+                "\nsftpv3: made by tar with {option}: make the archive without it"
+            ),
         }
-    }
-}
-
-/// Writes the line about an archive that was made in a way of which an import takes none, if it was.
-fn put_way<W: fmt::Write>(f: &mut fmt::Formatter<W>, way: Option<&str>) -> fmt::Result {
-    match way {
-        Some(way) => write!(
-            f,
-            "\nsftpv3: made by tar with {way}: make the archive without it"
-        ),
-        None => Ok(()),
-    }
-}
-
-/// Where the first block of an archive has the type of its member.
-const TYPE_PLACE: usize = 156;
-
-/// The option of GNU tar that made an archive with this first block, if an import does not take what it makes.
-fn way_of(start: &[u8]) -> Option<&'static str> {
-    match start.get(TYPE_PLACE) {
-        Some(b'D') => Some("--incremental or --listed-incremental"),
-        Some(b'M') => Some("--multi-volume"),
-        Some(b'V') => Some("--label"),
-        _ => None,
     }
 }

@@ -3,6 +3,7 @@ ghost use Rattle.std.specs.Prelude.{◌≡◌, IfOk};
 ghost use Rattle.sftp_files.specs.declared.messages.Ending.TheVariants as endings;
 
 use crate::cuts::is_mark;
+use crate::twice::spare_input;
 use crate::words::word_at;
 use sftp_files::{Ending, Failure, Keeping, STANDARD_INPUT, System, write_last};
 use sftp_show::Quoted;
@@ -23,6 +24,7 @@ pub fn make<'a, R: System, I: Read>(
 ) -> Result<Ending, Failure<'a>>
     ensures { IfOk result (λ ending. ending ≡ endings.Done) }
 {
+    spare_input(rt, name)?;
     let mut text = Vec::new(rt.alloc());
     let made = match input.read_to_end(&mut text) {
         Ok(_) => make_from(rt, name, keeping, text.as_slice()),

@@ -1,4 +1,8 @@
-//! Files that a command line names for two things, of which one would be lost.
+//! Files that are given for two things, of which one would be lost.
+ghost use Rattle.std.specs.Prelude.{IfErr};
+ghost use Rattle.sftp_files.specs.Failures.{IsUsage};
+
+use sftp_files::Failure;
 use std::fs;
 use std::fs::Files;
 use std::os::unix::fs::MetadataExt;
@@ -9,6 +13,30 @@ pub fn is_lost<R: Files>(rt: &R, written: Option<&str>, read: Option<&str>) -> b
     match (written, read) {
         (Some(written), Some(read)) => is_one_file(rt, written, read),
         _ => false,
+    }
+}
+
+/// Where Linux has the file on standard input.
+const INPUT: &str = "/dev/stdin";
+
+/// The message where that file would be lost.
+const INPUT_LOST: &str = "the file to write is the one on standard input";
+
+/// Lets a run go on unless it would write over the file that is on its standard input.
+///
+/// # Errors
+///
+/// `Usage` if it would.
+pub(crate) fn spare_input<'a, R: Files + AllocGlobal>(
+    rt: &R,
+    written: &str,
+) -> Result<(), Failure<'a>>
+    ensures { IfErr result IsUsage }
+{
+    if is_one_file(rt, written, INPUT) {
+        Err(Failure::of_misuse(rt.alloc(), INPUT_LOST))
+    } else {
+        Ok(())
     }
 }
 

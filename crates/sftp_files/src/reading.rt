@@ -4,9 +4,9 @@ ghost use Rattle.sftp_files.specs.Failures.{IsUnread};
 ghost use Rattle.sftp_files.specs.Failures.{failure_status};
 
 use crate::messages::Failure;
-use std::fs;
 use std::fs::Files;
 use std::io::Read;
+use std::{fs, io};
 
 /// Whether the file `name` can be read more than once. A pipe cannot.
 pub fn is_read_again<R: Files>(rt: &R, name: &str) -> bool {
@@ -24,9 +24,21 @@ pub fn open<'a, R: Files>(rt: &R, name: &'a str) -> Result<R::File, Failure<'a>>
 pub fn open_at<'a, R: Files>(rt: &R, path: &str, name: &'a str) -> Result<R::File, Failure<'a>>
     ensures { IfErr result IsUnread }
 {
-    match fs::open(rt, path) {
+    match opened(rt, path) {
         Ok(file) => Ok(file),
         Err(error) => Err(Failure::reading(name, &error)),
+    }
+}
+
+/// The system's number for a directory in the place of a file.
+const IS_A_DIRECTORY: i32 = 21;
+
+/// Opens what is at this path to read it. A directory, which the system would open, cannot be read.
+fn opened<R: Files>(rt: &R, path: &str) -> io::Result<R::File> {
+    if fs::metadata(rt, path).is_ok_and(|found| found.is_dir()) {
+        Err(io::Error::from_raw_os_error(IS_A_DIRECTORY))
+    } else {
+        fs::open(rt, path)
     }
 }
 

@@ -65,6 +65,14 @@ impl Name {
         })
     }
 
+    /// The name of these bytes, without a copy.
+    pub fn from_vec(bytes: Vec<u8>) -> Name
+        requires { IsTrue (spec.is_name bytes.items) }
+        ensures { result ≡ bytes.items }
+    {
+        Name { bytes }
+    }
+
     /// The bytes of the name.
     pub fn as_slice(&self) -> &[u8]
         ensures bytes { result.now ≡ self.now }

@@ -13,7 +13,11 @@ use crate::trees::Tree;
 use sftp_path::{Name, NoMemory, Parts, components, is_dot, is_dot_dot};
 use std::alloc::Global;
 
-/// The child of a directory at a component that is a name.
+/// How many bytes of memory the names of a path take, unless one is longer.
+const NAME_BYTES: usize = 24;
+
+/// The child of a directory at a component that is a name. The name takes the memory of `scratch`, where that is
+/// enough, and gives it back.
 ///
 /// # Errors
 ///
@@ -22,15 +26,19 @@ fn child_at<'a>(
     alloc: Global,
     dir: &'a Dir,
     component: &[u8],
+    scratch: &mut Vec<u8>,
 ) -> Result<Option<&'a Child>, NoMemory>
     requires { IsTrue (is_name component.now) }
     ensures below { IfOk result (λ found. (rest : Place) →
         tree.node_at dir.now (component.now ∷ rest) ≡ tree.node_at (branch_of (option_copied found)) rest) }
     ensures branch { IfOk result (λ found. IfSome found (λ child. IsBranch child.now)) }
 {
-    let name = Name::from_component(alloc, component)?;
+    let mut bytes = std::mem::replace(scratch, Vec::new(alloc));
+    bytes.clear();
+    bytes.extend_from_slice(component)?;
+    let name = Name::from_vec(bytes);
     let found = dir.child(&name);
-    drop(name);
+    drop(std::mem::replace(scratch, name.into_vec()));
     Ok(found)
 }
 
@@ -53,6 +61,7 @@ fn down<'a>(
     top: &'a Dir,
     steps: Parts<'_>,
     follow: bool,
+    scratch: &mut Vec<u8>,
 ) -> Result<Option<Option<Seen<'a>>>, NoMemory>
     requires { IsTrue (list_all is_step steps.left) }
     ensures { IfOk result (λ found. IfSome found (GoesDown top.now follow steps.entry.left)) }
@@ -64,7 +73,7 @@ fn down<'a>(
             return Ok(None);
         }
         let is_last = left.is_empty();
-        match child_at(alloc, dir, component)? {
+        match child_at(alloc, dir, component, scratch)? {
             Some(Child::Dir(inner)) => dir = inner,
             Some(Child::File(number)) if is_last => return Ok(Some(Some(Seen::File(*number)))),
             Some(Child::Link(target)) if is_last && !follow => return Ok(Some(Some(Seen::Link(
@@ -98,11 +107,15 @@ impl Tree {
         if !steps.absolute {
             return Ok(None);
         }
+        let alloc = self.home().allocator();
+        // One block of memory for all names of the path.
+        let mut scratch = Vec::with_capacity(alloc, NAME_BYTES)?;
         down(
-            self.home().allocator(),
+            alloc,
             self.names().root_directory(),
             steps,
             follow,
+            &mut scratch,
         )
     }
 }

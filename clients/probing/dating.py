@@ -1,0 +1,73 @@
+"""Scenes that set times and look at them, as clients do that keep the times of files: `put -p`, and mounts. Each has
+names of its own, as those of transfers.py have."""
+from probing.plans import Content
+from probing.transfers import CREAT, READ, TRUNC, WRITE, download, listing, upload
+
+
+def times(p):
+    """When something was read last, in the years 2030 to 2033, and changed last, in 2001 to 2004. No read makes the
+    first later where the system notes reads that it was not told to (relatime)."""
+    return {"times": (1_900_000_000 + 2 * p.random.randrange(50_000_000),
+                      1_000_000_000 + 2 * p.random.randrange(50_000_000))}
+
+
+def dated_file(p):
+    """The times of a file stay while it is looked at, gets other permissions, is read, and gets another name."""
+    path, new, content = p.blank(b"dated"), p.blank(b"dated.new"), Content(p.random, 300)
+    yield from upload(p, path, content)
+    yield p.ask("SETSTAT", path, times(p))
+    yield p.ask("STAT", path)
+    yield p.ask("LSTAT", path)
+    yield p.ask("SETSTAT", path, {"permissions": 0o640})
+    yield p.ask("STAT", path)
+    yield from download(p, path, content.size)
+    yield p.ask("STAT", path)
+    name = p.random.choice(["RENAME", "POSIX-RENAME"])
+    yield p.ask(name, path, new)
+    yield p.ask("STAT", new)
+    yield p.ask("SETSTAT", new, {"permissions": 0o600, **times(p)})
+    yield p.ask("LSTAT", new)
+
+
+def dated_upload(p):
+    """Times are set through a handle behind the last WRITE, and stay when it is closed; then through one that is open
+    to read and write."""
+    path, content = p.blank(b"dated-put"), Content(p.random, 5000)
+    step = p.ask("OPEN", path, WRITE | CREAT | TRUNC, {})
+    yield step
+    yield p.ask("WRITE", step.opened(), 0, content.at(0, content.size))
+    yield p.ask("FSETSTAT", step.opened(), {"permissions": 0o640, **times(p)})
+    yield p.ask("FSTAT", step.opened())
+    yield p.ask("CLOSE", step.opened())
+    yield p.ask("STAT", path)
+    step = p.ask("OPEN", path, READ | WRITE, {})
+    yield step
+    yield p.ask("FSTAT", step.opened())
+    yield p.ask("FSETSTAT", step.opened(), times(p))
+    yield p.ask("FSTAT", step.opened())
+    yield p.ask("STAT", path)
+    yield p.ask("READ", step.opened(), 0, content.size)
+    yield p.ask("FSTAT", step.opened())
+    yield p.ask("CLOSE", step.opened())
+    yield p.ask("LSTAT", path)
+
+
+def dated_folder(p):
+    """Times of a directory, and of a file in it that a listing shows, also where they are set together with a size."""
+    folder, content = p.blank(b"dated-in"), Content(p.random, 90)
+    path = folder + b"/file"
+    yield p.ask("MKDIR", folder, {})
+    yield from upload(p, path, content)
+    yield p.ask("SETSTAT", folder, times(p))
+    yield p.ask("STAT", folder)
+    yield from listing(p, folder, 1)
+    yield p.ask("LSTAT", folder)
+    yield p.ask("SETSTAT", path, times(p))
+    yield from listing(p, folder, 1)
+    yield p.ask("STAT", path)
+    yield p.ask("SETSTAT", path, {"size": 40, **times(p)})
+    yield p.ask("STAT", path)
+
+
+# Each session has one of them: as in `planner.PERIODS`.
+PERIODS = [("times", dated_file, 3, 1), ("times", dated_upload, 3, 2), ("times", dated_folder, 3, 0)]
