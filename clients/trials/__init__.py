@@ -7,5 +7,6 @@ clients        the real clients that are installed, and how each gets a server
 ssh            those that speak SSH themselves
 sshd           an sshd on the loopback
 probes         servers with a fault each, the groups of a report, plans
-other_servers  the sessions in examples/servers
+dated          short sessions that set times, for the probe
+other_servers  where OpenSSH's server is, and the sessions in examples/servers
 """

@@ -1,7 +1,7 @@
 """Short sessions that set times, and what `probing/set_times.py` has to find in them: the words, or nothing."""
 import sftp3
 from probing import set_times
-from sftp3 import Packet, Request
+from sftp3 import Packet
 
 SET, OTHER = (1_900_000_000, 1_000_000_000), (1_900_000_000, 1_000_000_002)
 FILE, LINK, FOLDER = 0o100644, 0o120777, 0o040755
@@ -13,7 +13,7 @@ def begun():
 
 
 def ask(number, name, *fields):
-    return sftp3.CLIENT, sftp3.encode(Request(number, name, list(fields)))
+    return sftp3.CLIENT, sftp3.request(number, name, *fields)
 
 
 def reply(number, name, *fields):

@@ -7,8 +7,12 @@ import sys
 from probing.plans import Step
 from probing.program import TOP, program
 
-# The server whose place those with a fault take.
-SERVE = [program(), "serve", "--tree", "{tree}"]
+def serve(*options):
+    """The command of the server whose place those with a fault take."""
+    return [program(), "serve", *options, "--tree", "{tree}"]
+
+
+SERVE = serve()
 
 
 def stand_in(module, name, server=SERVE):
@@ -25,8 +29,8 @@ def planted(name):
 
 
 def faulty(name, *options):
-    """A server with a fault, whose sound server has these options of `serve`."""
-    return stand_in("faults", name, [*SERVE, *options])
+    """The same, with the options that the server behind it needs."""
+    return stand_in("faults", name, serve(*options))
 
 
 def groups_of(report):
