@@ -1,11 +1,15 @@
 """What is checked with a built program: of ./install what it writes, that it says all that the help says, and that it
 takes everything away again; and the small ones of fuzz/attacks, which need no other user."""
 import os
+import pty
 import pwd
 import re
+import select
 import shutil
+import signal
 import subprocess
 import sys
+import time
 
 from texts import TOP
 
@@ -142,6 +146,56 @@ def wrong_completion(share):
             yield f"install: completing {typed} gives {printed!r}"
 
 
+# What zsh makes of a line when a tab is typed behind it.
+COMPLETED_BY_ZSH = [("sftpv3 aud", "audit"), ("sftpv3-probe --see", "--seeds"), ("sftpv3-probe -- sftpv3 aud", "audit"),
+                    ("sftpv3-walk --to x -- sftpv3 aud", "audit"), ("sftpv3-record --plain t sftpv3 aud", "audit")]
+ZSHRC = """PS1='READY> '
+fpath=({share}/zsh/site-functions $fpath)
+path=({share}/../bin $path)
+autoload -Uz compinit
+compinit -u -d {room}/dump
+bindkey '^U' kill-whole-line
+"""
+# Seconds in which zsh has to answer, however busy the machine is.
+LONG = 120
+
+
+def read_until(terminal, wanted):
+    """Reads what comes from a terminal until it has this text. Returns it all."""
+    found, end = "", time.monotonic() + LONG
+    while wanted not in found and time.monotonic() < end:
+        if select.select([terminal], [], [], 0.1)[0]:
+            found += os.read(terminal, 1 << 16).decode(errors="replace")
+    return found
+
+
+def wrong_completion_by_zsh(share, room):
+    """Types into zsh, if there is one, and looks at what its completions make of it."""
+    if not shutil.which("zsh"):
+        return
+    home = room / "zsh"
+    home.mkdir()
+    (home / ".zshrc").write_text(ZSHRC.format(share=share, room=home))
+    ours, terminal = pty.openpty()
+    words = ["zsh", "-i"]
+    shell = subprocess.Popen(words, cwd=home, env={**os.environ, "ZDOTDIR": str(home), "TERM": "dumb"}, stdin=terminal,
+                             stdout=terminal, stderr=terminal, start_new_session=True)
+    try:
+        read_until(ours, "READY> ")
+        for typed, wanted in COMPLETED_BY_ZSH:
+            os.write(ours, f"{typed}\t".encode())
+            whole = typed[:typed.rindex(" ") + 1] + wanted
+            printed = read_until(ours, whole)
+            if whole not in printed:
+                yield f"install: zsh completes {typed!r} as {printed!r}"
+            os.write(ours, b"\x15")
+    finally:
+        os.killpg(shell.pid, signal.SIGKILL)
+        shell.wait()
+        os.close(ours)
+        os.close(terminal)
+
+
 def wrong_mode(prefix):
     """The program can be read only by who installed it, if that is root: then its users do not trace it."""
     mode, wanted = (prefix / "bin/sftpv3").stat().st_mode & 0o7777, 0o711 if os.geteuid() == 0 else 0o755
@@ -254,10 +308,11 @@ def wrong_installation(program, room):
     if status or printed:
         return [f"install: it ended with status {status}: {printed}"]
     share = prefix / "share"
-    return [*wrong_texts(program, share), *wrong_syntax(share), *wrong_completion(share), *wrong_mode(prefix),
-            *wrong_script_texts(prefix, room), *wrong_scripts(prefix, room), *wrong_recorder(prefix, room),
-            *wrong_serve(prefix, room), *wrong_removal(program, room), *wrong_prefixes(program, room),
-            *wrong_package(program, room), *wrong_unpacking(program, room)]
+    return [*wrong_texts(program, share), *wrong_syntax(share), *wrong_completion(share),
+            *wrong_completion_by_zsh(share, room), *wrong_mode(prefix), *wrong_script_texts(prefix, room),
+            *wrong_scripts(prefix, room), *wrong_recorder(prefix, room), *wrong_serve(prefix, room),
+            *wrong_removal(program, room), *wrong_prefixes(program, room), *wrong_package(program, room),
+            *wrong_unpacking(program, room)]
 
 
 def wrong_attacks(program):
