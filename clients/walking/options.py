@@ -76,8 +76,8 @@ def parser(about):
     add("--max-entries", metavar="N", type=entries, default=bounds.ENTRIES,
         help=f"the most entries to look at; with more, the walk ends ({bounds.ENTRIES})")
     add("--owner", metavar="USER:GROUP", type=owner,
-        help="whose the things are that later sessions make, by the numbers that the server shows (those of the directory "
-             "where relative paths start, if it was looked at)")
+        help="whose the things are that later sessions make, by the numbers that the server shows (those of the "
+             "directory where relative paths start, if it was looked at)")
     add("--session", metavar="FILE", help="keep the transcript of the session, which is made anew")
     add("--memory", metavar="BYTES", type=memory, default=looking.MEMORY,
         help=f"the most memory of `sftpv3 infer`, which takes twice the bytes of the record ({looking.MEMORY})")
