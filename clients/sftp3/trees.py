@@ -138,6 +138,14 @@ def head(home: bytes, owner: tuple[int, int], limits: tuple[int, ...], count: in
     return opening + string(home) + uint32(*owner) + limits_text(opening, limits) + uint32(count) + of_root
 
 
+def put_owner(file, owner: tuple[int, int]) -> None:
+    """Changes, in a tree file that is open, the user and the group of what is made."""
+    file.seek(len(OPENING))
+    home = Fields(file.read(4)).uint32()
+    file.seek(home, 1)
+    file.write(uint32(*owner))
+
+
 def directory(path: bytes, owner: tuple[int, int, int], times: tuple[int, int] = NO_TIMES) -> bytes:
     """The entry of a directory. Its owner is a user, a group and permissions."""
     return string(path) + owned(DIRECTORY, owner, times)

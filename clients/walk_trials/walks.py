@@ -57,6 +57,15 @@ echo "sftpv3: out of memory" >&2
 exit 3
 """
 
+# A session of a user, 7 and of the group 8, who makes a directory.
+MAKES = b"""C INIT 3
+S VERSION 3
+C 1 MKDIR "/d" permissions=0755
+S 1 STATUS 0
+C 2 LSTAT "/d"
+S 2 ATTRS size=0 owner=7,8 permissions=040755
+"""
+
 # Servers of hostile.py at which the walk ends, and what it says.
 ENDED = [
     ("slash_in_name", r'the listing of "/" has the name "../../etc/\x1b[1mpasswd"'),
@@ -446,6 +455,18 @@ def try_entries(steps, folder):
                     os.path.exists(to) == (wanted == 0) and ends == (wanted == 3), f"{status}: {said}")
 
 
+def try_owner(steps, folder):
+    """What a user makes is judged by the tree of a walk, in which nothing shows who the user is."""
+    start, seen, record = (os.path.join(folder, name) for name in ("of-user.tree", "walked.tree", "makes.transcript"))
+    trees.write(trees.Tree([trees.Entry(b"/f", trees.FILE, b"bytes")], uid=7, gid=8), start)
+    subprocess.run([program(), "make", record], input=MAKES, check=True)
+    for options, wanted in (([], 1), (["--owner", "7:8"], 0)):
+        status, said = walk(folder, [*options, "--to", seen], [program(), "serve", "--tree", start])
+        steps.check(f"{' '.join(['a walk', *options])}: status 0", status == 0, f"{status}: {said}")
+        status, said = run([program(), "audit", *POSIX, "--tree", seen, "--transcript", record], folder)
+        steps.check(f"what a user makes is judged by its tree: status {wanted}", status == wanted, f"{status}: {said}")
+
+
 def try_usage(steps, folder):
     for options, command, wanted in (
             (["--max-bytes", "x"], ["true"], 2), (["--timeout", "0"], ["true"], 2),
@@ -456,7 +477,9 @@ def try_usage(steps, folder):
             (["--session", "/nowhere/x"], ["true"], 3),
             (["--session", "/dev/null"], ["true"], 3), (["--to", "x"], ["/nowhere/server"], 3),
             (["--to", "x"], ["true"], 3), (["--to", "x"], ["yes"], 3),
-            (["--session", "one", "--to", "./one"], [*HOSTILE, "Right"], 2)):
+            (["--session", "one", "--to", "./one"], [*HOSTILE, "Right"], 2),
+            (["--owner", "u:g"], ["true"], 2), (["--owner", "7"], ["true"], 2),
+            (["--owner", "7:4294967296"], ["true"], 2), (["--owner", "7:8", "--profile", "strict"], ["true"], 2)):
         status, said = walk(folder, options, command)
         steps.check(f"{' '.join(options)} -- {os.path.basename(command[-1])}: status {wanted}",
                     status == wanted and is_clean(said) and said, f"{status}: {said}")

@@ -21,6 +21,9 @@ IN_FLIGHT = 64
 PROFILE, STRICT, OF_USERS = "posix", "strict", "posix-user"
 
 
+# The highest number of a user or group.
+HIGHEST_OWNER = 2**32 - 1
+
 # No process is given as much memory, and the system takes no bound of more than eight times as much.
 MOST_MEMORY = 1 << 60
 
@@ -45,6 +48,13 @@ def entries(text):
     return found
 
 
+def owner(text):
+    numbers = text.split(":")
+    if len(numbers) != 2 or any(count(it) > HIGHEST_OWNER for it in numbers):
+        raise argparse.ArgumentTypeError(f"{text!r} is not the numbers of a user and a group, as 1000:1000")
+    return tuple(map(int, numbers))
+
+
 def place(text):
     path = os.fsencode(text)
     if len(path) > bounds.PATH:
@@ -65,6 +75,9 @@ def parser(about):
         help=f"the most bytes of files to read, all together; a line names each file that is left ({bounds.READ})")
     add("--max-entries", metavar="N", type=entries, default=bounds.ENTRIES,
         help=f"the most entries to look at; with more, the walk ends ({bounds.ENTRIES})")
+    add("--owner", metavar="USER:GROUP", type=owner,
+        help="whose the things are that later sessions make, by the numbers that the server shows (those of the "
+             "directory where relative paths start, if it was looked at)")
     add("--session", metavar="FILE", help="keep the transcript of the session, which is made anew")
     add("--memory", metavar="BYTES", type=memory, default=looking.MEMORY,
         help=f"the most memory of `sftpv3 infer`, which takes twice the bytes of the record ({looking.MEMORY})")
@@ -91,6 +104,8 @@ def options(about):
         found.error("--to names no file")
     if given.to is not None and given.session is not None and is_one_file(given.to, given.session):
         found.error("--to and --session name one file")
+    if given.owner and given.profile == STRICT:
+        found.error(f"--owner cannot be given with --profile {STRICT}, by which links show it")
     given.below = given.below or [b"."]
     given.infer_words = profile_words(given)
     return given
