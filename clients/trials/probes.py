@@ -7,6 +7,7 @@ import sys
 from probing.plans import Step
 from probing.program import TOP, program
 
+
 def serve(*options):
     """The command of the server whose place those with a fault take."""
     return [program(), "serve", *options, "--tree", "{tree}"]

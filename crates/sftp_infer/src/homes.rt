@@ -12,7 +12,7 @@ pub(crate) fn home_of<'t>(path: &[u8], text: &'t [u8]) -> Option<&'t [u8]> {
     if path.first() == Some(&b'/') {
         return None;
     }
-    let names = without_dots(path);
+    let names = without_end(without_dots(path));
     if names.is_empty() {
         return Some(text);
     }
@@ -37,6 +37,29 @@ fn behind_dot(path: &[u8]) -> Option<&[u8]> {
     let is_last = behind.first().unwrap_or(&b'/') == &b'/';
     if *first == b'/' || *first == b'.' && is_last {
         Some(behind)
+    } else {
+        None
+    }
+}
+
+/// What a path has before the slashes and the names `.` at its end.
+fn without_end(path: &[u8]) -> &[u8] {
+    let mut left = path;
+    for _ in 0..path.len() {
+        match before_dot(left) {
+            Some(before) => left = before,
+            None => return left,
+        }
+    }
+    left
+}
+
+/// What a path has before a slash or a name `.` at its end.
+fn before_dot(path: &[u8]) -> Option<&[u8]> {
+    let (last, before) = path.split_last()?;
+    let is_first = before.last().unwrap_or(&b'/') == &b'/';
+    if *last == b'/' || *last == b'.' && is_first {
+        Some(before)
     } else {
         None
     }
@@ -91,8 +114,11 @@ impl World {
     }
 
     fn take_place(&mut self, path: &[u8], text: &[u8], found: &Found<'_>) -> Result<(), Stop> {
+        if self.may_be_told(path, text, found.look)? {
+            return Ok(());
+        }
         let place = self.place(found.parent, found.name(), false)?;
-        if place.as_slice() == text || self.may_be_told(path, text, found.look)? {
+        if place.as_slice() == text {
             drop(place);
             return Ok(());
         }
@@ -119,16 +145,25 @@ impl World {
     /// Whether a text is that of a path, made absolute without a look at the tree.
     fn is_absolute(&self, path: &[u8], text: &[u8]) -> Result<bool, NoMemory> {
         let mut absolute = Vec::new(self.alloc);
-        if path.first() != Some(&b'/') {
-            add_names(&mut absolute, self.home.as_slice())?;
-        }
-        add_names(&mut absolute, path)?;
-        if absolute.is_empty() {
-            absolute.push(b'/')?;
-        }
+        let put = self.put_absolute(path, &mut absolute);
         let is_same = absolute.as_slice() == text;
         drop(absolute);
-        Ok(is_same)
+        match put {
+            Ok(()) => Ok(is_same),
+            Err(error) => Err(error),
+        }
+    }
+
+    /// Appends the text of a path, made absolute without a look at the tree.
+    fn put_absolute(&self, path: &[u8], text: &mut Vec<u8>) -> Result<(), NoMemory> {
+        if path.first() != Some(&b'/') {
+            add_names(text, self.home.as_slice())?;
+        }
+        add_names(text, path)?;
+        if text.is_empty() {
+            text.push(b'/')?;
+        }
+        Ok(())
     }
 
     /// Proposes why a path leads to another place than it seems.

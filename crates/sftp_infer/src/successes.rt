@@ -253,8 +253,8 @@ impl World {
         self.tell_attrs(reached?, attrs)
     }
 
-    /// Whether a reply to LSTAT that shows this kind shows what a link leads to, as a profile allows where a slash or dots
-    /// are behind its name.
+    /// Whether a reply to LSTAT that shows this kind shows what a link leads to, as a profile allows where a slash or
+    /// dots are behind its name.
     fn shows_end(&self, path: &[u8], sort: Sort) -> bool {
         !self.settings.is_strict && has_loose_end(path) && sort != Sort::Link
     }
