@@ -256,9 +256,9 @@ class Helps(unittest.TestCase):
                 (Path(room) / f"{name}.py").write_text(SPRUNG)
             found = {it: wrong(it, "--help", PYTHONOPTIMIZE="2", PYTHONPATH=room)
                      for it in [*(TOP / "clients" / it for it in COMMANDS), *servers()]}
-            texts = subprocess.run([TOP / "packaging/commands", room, *COMMANDS], stdin=subprocess.DEVNULL, timeout=LONG,
+            texts = subprocess.run([TOP / "packaging/commands", room, *COMMANDS], stdin=subprocess.DEVNULL,
                                    env={**os.environ, "PYTHONOPTIMIZE": "2", "PYTHONPATH": room},
-                                   stdout=subprocess.PIPE, stderr=subprocess.STDOUT)
+                                   stdout=subprocess.PIPE, stderr=subprocess.STDOUT, timeout=LONG)
         self.assertEqual({str(it.relative_to(TOP)): why for it, why in found.items() if why}, {})
         self.assertEqual((texts.returncode, texts.stdout), (0, b""))
 
