@@ -68,6 +68,9 @@ def wrong_script_texts(prefix, room):
         words = set(re.findall(r"(?m)^  (?:-\w(?: \w+)?, )?(--[a-z-]+)", help_text)) - {"--help"}
         if status or len(words) < 5 or not help_text.startswith(f"usage: {name}"):
             yield f"install: {name} --help ended with status {status}: {help_text}"
+        page = (prefix / "share/man/man1" / f"{name}.1").read_text()
+        yield from (f"install: man1/{name}.1 has {it}, which is not installed" for it in
+                    re.findall(rf"clients/(?:{'|'.join(it.removeprefix('sftpv3-') for it in SCRIPTS)})\b", page))
         for file in (f"man/man1/{name}.1", f"bash-completion/completions/{name}", f"zsh/site-functions/_{name}"):
             text = (prefix / "share" / file).read_text().replace("\\-", "-").replace("Fl -", "--")
             for word in sorted(words):

@@ -257,8 +257,8 @@ class Helps(unittest.TestCase):
             found = {it: wrong(it, "--help", PYTHONOPTIMIZE="2", PYTHONPATH=room)
                      for it in [*(TOP / "clients" / it for it in COMMANDS), *servers()]}
             texts = subprocess.run([TOP / "packaging/commands", room, *COMMANDS], stdin=subprocess.DEVNULL,
-                                   timeout=LONG, env={**os.environ, "PYTHONOPTIMIZE": "2", "PYTHONPATH": room},
-                                   stdout=subprocess.PIPE, stderr=subprocess.STDOUT)
+                                   env={**os.environ, "PYTHONOPTIMIZE": "2", "PYTHONPATH": room},
+                                   stdout=subprocess.PIPE, stderr=subprocess.STDOUT, timeout=LONG)
         self.assertEqual({str(it.relative_to(TOP)): why for it, why in found.items() if why}, {})
         self.assertEqual((texts.returncode, texts.stdout), (0, b""))
 
