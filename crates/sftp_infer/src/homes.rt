@@ -2,19 +2,67 @@
 
 use crate::errors::{Stop, What};
 use crate::facts::Says;
-use crate::look::{Found, Look};
+use crate::look::{Found, Look, next_part};
 use crate::nodes::Sort;
 use crate::world::World;
+use sftp_path::{NoMemory, is_dot, is_dot_dot};
 
 /// The home that a REALPATH of a relative path tells: the text before that path.
 pub(crate) fn home_of<'t>(path: &[u8], text: &'t [u8]) -> Option<&'t [u8]> {
-    if path.is_empty() || path == b".".as_slice() {
-        return Some(text);
-    }
-    if path.first() == Some(&b'/') || path.iter().any(|byte| *byte == b'.') {
+    if path.first() == Some(&b'/') {
         return None;
     }
-    before(path, text)
+    let names = without_end(without_dots(path));
+    if names.is_empty() {
+        return Some(text);
+    }
+    before(names, text)
+}
+
+/// What a relative path has behind the names `.` at its front.
+fn without_dots(path: &[u8]) -> &[u8] {
+    let mut left = path;
+    for _ in 0..path.len() {
+        match behind_dot(left) {
+            Some(behind) => left = behind,
+            None => return left,
+        }
+    }
+    left
+}
+
+/// What a path has behind a slash or a name `.` at its front.
+fn behind_dot(path: &[u8]) -> Option<&[u8]> {
+    let (first, behind) = path.split_first()?;
+    let is_last = behind.first().unwrap_or(&b'/') == &b'/';
+    if *first == b'/' || *first == b'.' && is_last {
+        Some(behind)
+    } else {
+        None
+    }
+}
+
+/// What a path has before the slashes and the names `.` at its end.
+fn without_end(path: &[u8]) -> &[u8] {
+    let mut left = path;
+    for _ in 0..path.len() {
+        match before_dot(left) {
+            Some(before) => left = before,
+            None => return left,
+        }
+    }
+    left
+}
+
+/// What a path has before a slash or a name `.` at its end.
+fn before_dot(path: &[u8]) -> Option<&[u8]> {
+    let (last, before) = path.split_last()?;
+    let is_first = before.last().unwrap_or(&b'/') == &b'/';
+    if *last == b'/' || *last == b'.' && is_first {
+        Some(before)
+    } else {
+        None
+    }
 }
 
 /// The text before a path and its slash, if it ends in them. That of the root is a slash.
@@ -27,17 +75,33 @@ fn before<'t>(path: &[u8], text: &'t [u8]) -> Option<&'t [u8]> {
     text.get(..home.max(1))
 }
 
-/// Whether a path is sure to be the text of a place below the root: it is absolute, has one slash before each name, and
-/// no name that begins with a dot, as `.` and `..` do.
-fn is_plain(path: &[u8]) -> bool {
-    let mut before = b' ';
-    for byte in path.iter() {
-        if before == b'/' && (*byte == b'/' || *byte == b'.') {
-            return false;
+/// Appends the names of a path to the text of a place, of which `..` takes the last one away.
+fn add_names(text: &mut Vec<u8>, path: &[u8]) -> Result<(), NoMemory> {
+    let mut left = path;
+    for _ in 0..path.len() {
+        match next_part(left) {
+            Some((name, behind)) => {
+                left = behind;
+                add_name(text, name)?;
+            }
+            None => break,
         }
-        before = *byte;
     }
-    path.first() == Some(&b'/') && before != b'/'
+    Ok(())
+}
+
+fn add_name(text: &mut Vec<u8>, name: &[u8]) -> Result<(), NoMemory> {
+    if is_dot(name) {
+        return Ok(());
+    }
+    if is_dot_dot(name) {
+        let above = text.iter().rposition(|byte| *byte == b'/');
+        text.truncate(above.unwrap_or(0));
+        return Ok(());
+    }
+    text.push(b'/')?;
+    text.extend_from_slice(name)?;
+    Ok(())
 }
 
 impl World {
@@ -50,8 +114,11 @@ impl World {
     }
 
     fn take_place(&mut self, path: &[u8], text: &[u8], found: &Found<'_>) -> Result<(), Stop> {
+        if self.may_be_told(path, text, found.look)? {
+            return Ok(());
+        }
         let place = self.place(found.parent, found.name(), false)?;
-        if place.as_slice() == text || self.may_be_told(path, text, found.look) {
+        if place.as_slice() == text {
             drop(place);
             return Ok(());
         }
@@ -64,13 +131,39 @@ impl World {
     }
 
     /// Whether a server of the profile may have told this text of a path that leads to another place: it need not look
-    /// at the tree, and tells any text of a path that leads nowhere.
-    fn may_be_told(&self, path: &[u8], text: &[u8], look: Look) -> bool {
-        let is_there = match look {
-            Look::Entry(_) | Look::Unknown => true,
-            _ => false,
-        };
-        !self.settings.is_strict && (!is_there || text == path || !is_plain(path))
+    /// at the tree, and tells any text of a path that leads to no place.
+    fn may_be_told(&self, path: &[u8], text: &[u8], look: Look) -> Result<bool, NoMemory> {
+        if self.settings.is_strict {
+            return Ok(false);
+        }
+        match look {
+            Look::Entry(_) | Look::Unknown | Look::Nothing(_) => self.is_absolute(path, text),
+            _ => Ok(true),
+        }
+    }
+
+    /// Whether a text is that of a path, made absolute without a look at the tree.
+    fn is_absolute(&self, path: &[u8], text: &[u8]) -> Result<bool, NoMemory> {
+        let mut absolute = Vec::new(self.alloc);
+        let put = self.put_absolute(path, &mut absolute);
+        let is_same = absolute.as_slice() == text;
+        drop(absolute);
+        match put {
+            Ok(()) => Ok(is_same),
+            Err(error) => Err(error),
+        }
+    }
+
+    /// Appends the text of a path, made absolute without a look at the tree.
+    fn put_absolute(&self, path: &[u8], text: &mut Vec<u8>) -> Result<(), NoMemory> {
+        if path.first() != Some(&b'/') {
+            add_names(text, self.home.as_slice())?;
+        }
+        add_names(text, path)?;
+        if text.is_empty() {
+            text.push(b'/')?;
+        }
+        Ok(())
     }
 
     /// Proposes why a path leads to another place than it seems.

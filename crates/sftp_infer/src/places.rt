@@ -7,7 +7,7 @@ use crate::world::World;
 use sftp_path::DEPTH_LIMIT;
 
 /// Appends a slash and a name.
-fn put_part(name: &[u8], text: &mut Vec<u8>) -> Result<(), Stop> {
+pub(crate) fn put_part(name: &[u8], text: &mut Vec<u8>) -> Result<(), Stop> {
     text.push(b'/')?;
     text.extend_from_slice(name)?;
     Ok(())

@@ -5,6 +5,7 @@ ghost use Rattle.sftp_treefile.specs.declared.limits.Opening.TheVariants.{Raised
 
 use crate::candidates::Excess;
 use crate::files::File;
+use crate::look::Look;
 use crate::nodes::{Held, Node, Sort};
 use crate::texts::TreeText;
 use crate::world::World;
@@ -271,7 +272,8 @@ impl World {
 
     /// The head of the tree file.
     fn put_start(&self, count: usize, out: &mut Vec<u8>) -> Result<(), NoMemory> {
-        let (uid, gid) = self.owner.unwrap_or((0, 0));
+        let told = self.home_owner()?;
+        let (uid, gid) = self.owner.or(told).unwrap_or((0, 0));
         let root = self.owner_of(0, 0o755);
         let home = ByteString::from_slice(self.alloc, self.home.as_slice())?;
         let limits = self.limits(count);
@@ -292,6 +294,17 @@ impl World {
         let done = put_head(out, &head);
         drop(head);
         done
+    }
+
+    /// The owner that a reply showed of the directory where relative paths begin: who made that makes more.
+    fn home_owner(&self) -> Result<Option<(u32, u32)>, NoMemory> {
+        let found = self.look(self.home.as_slice(), true)?;
+        let owner = match found.look {
+            Look::Entry(at) => self.rights(at).start_owner,
+            _ => None,
+        };
+        drop(found);
+        Ok(owner)
     }
 
     /// The lowest limits that the session needs, or those that `raise` sets where they are enough.

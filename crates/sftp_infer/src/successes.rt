@@ -7,6 +7,7 @@ use crate::handles::Opened;
 use crate::nodes::{Node, Sort};
 use crate::pieces::Piece;
 use crate::reads::Shown;
+use crate::reasons::has_loose_end;
 use crate::world::World;
 use sftp_wire::{Answer, Ask, Attrs, ByteString, Names, status};
 
@@ -239,7 +240,10 @@ impl World {
         let sort = sort_of(attrs);
         let reached = match ask {
             Ask::Stat { path } => self.reach_entry(path.as_slice(), true, sort),
-            Ask::Lstat { path } => self.reach_entry(path.as_slice(), false, sort),
+            Ask::Lstat { path } => {
+                self.follows = self.shows_end(path.as_slice(), sort);
+                self.reach_entry(path.as_slice(), self.follows, sort)
+            }
             Ask::Fstat { handle } => match self.handle(handle) {
                 Some(opened) => Ok(opened.entry),
                 None => return Ok(()),
@@ -247,6 +251,12 @@ impl World {
             _ => return Ok(()),
         };
         self.tell_attrs(reached?, attrs)
+    }
+
+    /// Whether a reply to LSTAT that shows this kind shows what a link leads to, as a profile allows where a slash or
+    /// dots are behind its name.
+    fn shows_end(&self, path: &[u8], sort: Sort) -> bool {
+        !self.settings.is_strict && has_loose_end(path) && sort != Sort::Link
     }
 
     fn take_names(&mut self, ask: &Ask, names: &Names) -> Result<(), Stop> {

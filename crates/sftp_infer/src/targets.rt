@@ -20,7 +20,7 @@ const TRIES: u32 = 64;
 const LETTERS: &[u8] = b"abcdefghijklmnopqrstuvwxyz0123456789";
 
 /// The longest name that is made up.
-const NAME_LIMIT: u64 = 255;
+pub(crate) const NAME_LIMIT: u64 = 255;
 
 /// A byte that the session may have written at an offset, and the session.
 #[derive(Clone, Copy)]

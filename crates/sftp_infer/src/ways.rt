@@ -1,9 +1,12 @@
 //! What links may lead to that hide behind what a session saw.
 
+use crate::errors::Stop;
 use crate::facts::Says;
 use crate::look::cut_last;
 use crate::names::Seat;
 use crate::nodes::Sort;
+use crate::places::put_part;
+use crate::targets::NAME_LIMIT;
 use crate::world::World;
 use sftp_path::DEPTH_LIMIT;
 
@@ -12,6 +15,9 @@ const LINKS: usize = 3;
 
 /// How many entries are proposed as what a link leads to.
 const ENDS: u32 = 4;
+
+/// How many directories are looked at for a name that a link may lead to.
+const OPEN: u32 = 16;
 
 /// How many names of a directory are proposed as targets of a link beside them.
 const BESIDE: usize = 3;
@@ -66,7 +72,8 @@ impl World {
         }
     }
 
-    /// Proposes that an entry is a link of this length to something of its kind, by its path or by its name alone.
+    /// Proposes that an entry is a link of this length to something of its kind, by its path or by what that has behind
+    /// the directory of the link.
     pub(crate) fn propose_ends(&mut self, at: usize, length: Option<u64>) {
         let Some(length) = length else {
             return;
@@ -82,10 +89,12 @@ impl World {
         }
     }
 
-    /// Whether an entry of the start is of this kind.
+    /// Whether an entry of the start may be what one of this kind is a link to: it is of this kind, or no link if that
+    /// is known to be one.
     fn is_end(&self, at: usize, sort: Sort) -> bool {
         let entry = self.entry(at);
-        entry.is_old && at != 0 && entry.sort == sort
+        let is_link = sort == Sort::Link;
+        entry.is_old && at != 0 && (entry.sort == sort) != is_link
     }
 
     /// Proposes that an entry is a link to another one, if a target of that one has this length. Says whether one has.
@@ -99,19 +108,34 @@ impl World {
         }
     }
 
-    /// The path of an entry of the start, or its name alone for a link beside it, if it has this length.
+    /// The path of an entry of the start, or what it has behind the directory of a link, if it has this length.
     fn end_of_length(&mut self, at: usize, other: usize, length: u64) -> Option<Vec<u8>> {
         let text = self.old_text(other)?;
         if text.len() as u64 == length {
             return Some(text);
         }
+        let end = self.end_beside(at, text.as_slice(), length);
         drop(text);
-        let (beside, seat) = (self.entry(at).old_seat, self.entry(other).old_seat);
-        let is_beside = beside.parent == seat.parent;
-        if is_beside && self.name_at(seat).len() as u64 == length {
-            return self.copy_of_name(seat);
+        end
+    }
+
+    /// What the text of a place has behind the directory of a link, if it has this length; `None` if memory runs out,
+    /// which is noted.
+    fn end_beside(&mut self, at: usize, text: &[u8], length: u64) -> Option<Vec<u8>> {
+        match self.place(self.entry(at).old_seat.parent, &[], true) {
+            Ok(above) => {
+                let end = beside(text, above.as_slice());
+                drop(above);
+                match end {
+                    Some(end) if end.len() as u64 == length => self.copy(end),
+                    _ => None,
+                }
+            }
+            Err(_) => {
+                self.lacks_memory = true;
+                None
+            }
         }
-        None
     }
 
     /// A copy of the name at a seat; `None` if memory runs out, which is noted.
@@ -156,9 +180,71 @@ impl World {
                     self.propose_fitting(at, length, name);
                 }
                 self.propose_names(at, parent, length);
+                self.propose_behind(at, parent, length);
             }
             Err(_) => self.lacks_memory = true,
         }
+    }
+
+    /// Proposes what a link may lead to out of its directory, if all names of that are known.
+    fn propose_behind(&mut self, at: usize, parent: usize, length: Option<u64>) {
+        if self.entry(parent).complete.is_some() && !self.propose_afar(at, length) {
+            self.propose_ends(at, length);
+        }
+    }
+
+    /// Proposes that a link of this length leads to a name that nothing mentions, in the first directory of the start
+    /// of which not all names are known. Says whether there is one.
+    fn propose_afar(&mut self, at: usize, length: Option<u64>) -> bool {
+        let length = length.unwrap_or(8);
+        let mut left = OPEN;
+        self.work = self.work.saturating_add(self.nodes.len() as u64);
+        for other in 0..self.nodes.len() {
+            if left > 0 && self.is_open(other) {
+                left = left.saturating_sub(1);
+                if let Some(target) = self.name_afar(other, length) {
+                    self.propose_of(at, Says::Link(target));
+                    return true;
+                }
+            }
+        }
+        false
+    }
+
+    /// Whether an entry is a directory of the start of which not all names are known.
+    fn is_open(&self, at: usize) -> bool {
+        let entry = self.entry(at);
+        (at == 0 || entry.is_old) && entry.sort == Sort::Directory && entry.complete.is_none()
+    }
+
+    /// A path of this length to a name in a directory that nothing mentions there; `None` if there is none, and if
+    /// memory runs out, which is noted.
+    fn name_afar(&mut self, parent: usize, length: u64) -> Option<Vec<u8>> {
+        let mut path = match parent {
+            0 => Vec::new(self.alloc),
+            _ => self.old_text(parent)?,
+        };
+        let left = length.saturating_sub(path.len() as u64).saturating_sub(1);
+        if left == 0 || left > NAME_LIMIT {
+            drop(path);
+            return None;
+        }
+        match self.add_fresh(parent, left, &mut path) {
+            Ok(()) => Some(path),
+            Err(_) => {
+                self.lacks_memory = true;
+                drop(path);
+                None
+            }
+        }
+    }
+
+    /// Appends a slash and a name of this length that nothing mentions in a directory.
+    fn add_fresh(&self, parent: usize, length: u64, path: &mut Vec<u8>) -> Result<(), Stop> {
+        let name = self.fresh_name(parent, length)?;
+        let put = put_part(name.as_slice(), path);
+        drop(name);
+        put
     }
 
     /// Proposes for a link whose target has another length than this that it leads to the same place by its name alone,
@@ -190,10 +276,10 @@ impl World {
         }
     }
 
-    /// Proposes a target for a link, if that has the link's length.
+    /// Proposes another target for a link, if that has the link's length.
     fn propose_fitting(&mut self, at: usize, length: Option<u64>, target: &[u8]) {
         let count = target.len() as u64;
-        if length.unwrap_or(count) == count {
+        if length.unwrap_or(count) == count && self.target(at) != Some(target) {
             self.propose_link_to(at, target);
         }
     }
