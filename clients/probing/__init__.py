@@ -24,7 +24,7 @@ runs        one run of the probe
 reports     what is printed, kept and reported, also as JUnit; a difference as pages and reports show it
 planted     servers with bugs, for clients/test-probe
 faults      servers with one fault each, for clients/test-probe-faults: faulty_writes, faulty_reads, faulty_names,
-            faulty_replies, faulty_meetings, faulty_order, faulty_kept, faulty_stores, faulty_handles,
+            faulty_replies, faulty_open, faulty_meetings, faulty_order, faulty_kept, faulty_stores, faulty_handles,
             faulty_served and faulty_times have them, faulty what they are made of
 misbehaving servers that end, hang and are late, for clients/test-probe-runs
 mutated     mistakes in sessions that are right, for clients/test-profiles

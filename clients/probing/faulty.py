@@ -310,6 +310,48 @@ class Attributes(Fault):
         return given
 
 
+class Meets(Fault):
+    """Knows what is open by its path, and asks what it needs to know itself."""
+
+    def __init__(self):
+        super().__init__()
+        # what is to be done with the replies to its own requests, by their ids
+        self.calls = {}
+
+    def of_reply(self, packet):
+        call = self.calls.pop(int.from_bytes(packet[5:9], "big"), None) if packet[4] != sftp3.VERSION else None
+        if call:
+            call(packet)
+        return super().of_reply(packet)
+
+    def question(self, call, name, *fields):
+        """A request of its own; `call` gets the reply."""
+        asked = self.another(name, *fields)
+        self.calls[asked.number] = call
+        return asked
+
+    def look(self, call, name, path):
+        """A request of its own that looks at a path; `call` gets the attributes, or None."""
+        return self.question(lambda packet: call(attributes_of(packet)), name, path)
+
+    def openers(self, name="OPEN"):
+        return [opener for opener in list(self.opened.values()) if opener.name == name]
+
+    def numbers_at(self, path, name="OPEN"):
+        """The numbers of the requests that opened what is open by a path."""
+        return {opener.number for opener in self.openers(name) if clean(opener.fields[0]) == clean(path)}
+
+
+class Refuses(Meets):
+    """Refuses some requests, and does nothing then."""
+
+    def ask(self, asked):
+        return refused(asked) if self.refuses(asked) else [asked]
+
+    def refuses(self, _asked):
+        return False
+
+
 class SmallRoom(Fault):
     """No fault: VERSION has limits@openssh.com, with less than most servers take; whoever asks for more is cut off."""
 

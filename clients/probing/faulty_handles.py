@@ -1,7 +1,6 @@
 """Faults of servers in handles, in counts, in what follows a refused request, and in what a request sets."""
 import sftp3
-from probing.faulty import FAR, SETS, Asks, Fault, Reads, refused, sets_size
-from probing.faulty_meetings import Refuses
+from probing.faulty import FAR, SETS, Asks, Fault, Reads, Refuses, refused, sets_size
 from probing.faulty_writes import write_lost_by_count
 
 

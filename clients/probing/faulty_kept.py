@@ -4,9 +4,8 @@ import posixpath
 
 import sftp3
 from probing.faulty import (
-    ABSENT, BLOCK, FAR, LOOKS, MOVES, Asks, Attributes, Fault, Listings, Reads, Writes, aim_of, clean, data_of,
-    paths_of, refused, sets_size, status)
-from probing.faulty_meetings import Meets
+    ABSENT, BLOCK, FAR, LOOKS, MOVES, Asks, Attributes, Fault, Listings, Meets, Reads, Writes, aim_of, clean,
+    data_of, paths_of, refused, sets_size, status)
 from sftp3 import APPEND, CREAT, EXCL, TRUNC
 
 

@@ -4,9 +4,9 @@ import posixpath
 
 import sftp3
 from probing.faulty import (
-    END, FAILED, FAR, LOOKS, OK_STATUS, Asks, Fault, Listings, Reads, Statuses, clean, refused, status,
-    with_names)
-from probing.faulty_meetings import Meets, Refuses, Targets
+    END, FAILED, FAR, LOOKS, OK_STATUS, Asks, Fault, Listings, Meets, Reads, Refuses, Statuses, clean, refused,
+    status, with_names)
+from probing.faulty_meetings import Targets
 from sftp3 import APPEND, CREAT, EXCL, READ, WRITE
 
 LINK, FILE, DIRECTORY, KIND = 0o120000, 0o100000, 0o040000, 0o170000

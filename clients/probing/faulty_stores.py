@@ -3,8 +3,7 @@ than others: directories that are no more than names, names that are alike, copi
 import posixpath
 import unicodedata
 
-from probing.faulty import MOVES, Asks, Fault, aim_of, clean, is_below, is_path, paths_of, refused
-from probing.faulty_meetings import Refuses
+from probing.faulty import MOVES, Asks, Fault, Refuses, aim_of, clean, is_below, is_path, paths_of, refused
 from probing.faulty_names import Spelled
 from sftp3 import CREAT, READ
 
