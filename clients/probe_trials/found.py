@@ -7,7 +7,8 @@ import subprocess
 import sftp3
 from probe_trials.runs import probe, side_by_side
 from probing import features, planner, starting
-from probing.program import program
+from probing.program import TOP, program
+from trials.other_servers import has_openssh
 from trials.probes import groups_of, misbehaving, planted
 
 # Servers of probing/misbehaving.py, how many requests are in flight, and what is found in one of the groups.
@@ -98,6 +99,22 @@ def try_hints(steps, folder):
                     "accepted with: " not in said, (status, said[-2000:]))
 
 
+def try_advice(steps, folder):
+    """A strict run on a server with a real file system says that a profile is what it needs; no other run does."""
+    few = ["--seeds", "1", "--budget", "0", "--skip", "owner,new-owner,crowds,transfers,large-owner", "--keep",
+           os.path.join(folder, "advice")]
+    openssh = [os.path.join(TOP, "clients", "servers", "openssh"), "{tree}"]
+    runs = [("a wrong server", [], misbehaving("fifth-refusal"), False)]
+    if has_openssh(steps, "a strict run on OpenSSH's server", needs_root=True):
+        runs += [("OpenSSH's server, strictly", [], openssh, True),
+                 ("OpenSSH's server, by posix", ["--profile", "posix"], openssh, False)]
+    for name, words, server, is_advised in runs:
+        status, said, _ = probe(*few, *words, "--", *server)
+        advised = re.search(r"\nprobe: \d+ of \d+ kinds are accepted with --profile posix, ", said)
+        steps.check(f"{name}: a profile is {'' if is_advised else 'not '}advised", status in (0, 1) and
+                    bool(advised) == is_advised, said[-1500:])
+
+
 def try_link_order(steps, folder):
     """A server that takes the link first gets it first, so that a plan makes the links that it means."""
     sent, few = os.path.join(folder, "sent"), ["--seeds", "6", "--skip", "crowds,transfers", "--in-flight", "1"]
@@ -184,5 +201,5 @@ def try_independent(steps, folder):
                 len(leaders) <= 2, said)
 
 
-TRIALS = (try_found, try_hints, try_link_order, try_unknown_handles, try_longest_handles, try_log, try_intermittent,
-          try_independent)
+TRIALS = (try_found, try_hints, try_advice, try_link_order, try_unknown_handles, try_longest_handles, try_log,
+          try_intermittent, try_independent)

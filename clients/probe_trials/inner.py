@@ -1,6 +1,7 @@
 """Modules of the probe, called without a run; and that --jobs changes no report."""
 import os
 import re
+import subprocess
 import time
 
 import sftp3
@@ -49,6 +50,14 @@ def try_much(steps, folder):
         held = sum(len(packet) for _, packet in session.records)
         steps.check(f"{kind}: the session ends, and is held no further", session.end == said and held < 70_000_000 and
                     session.unanswered + session.unasked > 0, f"{session.end}: {held} bytes")
+
+
+def try_explained(steps, _):
+    """Each departure that would accept a reply is named: `audit --explain` has a line for each."""
+    why = "reply: 4 S STATUS 1 21 code 5\nallowed by: codes\nallowed by: extensions\n"
+    verdict = verdicts.of_audit(subprocess.CompletedProcess([], 1, b"refused record 4: NotAllowed\n", why.encode()))
+    steps.check("two departures that would accept a reply are named", verdict.lines["allowed by"] ==
+                "codes, extensions", verdict)
 
 
 def try_room(steps, _):
@@ -111,4 +120,4 @@ def try_bytes(steps, _):
                 time.monotonic() - start)
 
 
-TRIALS = (try_progress, try_jobs, try_much, try_room, try_cut_short, try_tally, try_bytes)
+TRIALS = (try_progress, try_jobs, try_much, try_explained, try_room, try_cut_short, try_tally, try_bytes)

@@ -25,8 +25,9 @@ OWN_IDS = 0xF0000000
 class Fault(planted.Bug):
     """A server with one fault. A fault overrides `alter`, `ask` or `answer`, or what a class below leaves to it."""
 
-    # The options that `serve`, the sound server behind it, needs to show it.
+    # The options that `serve`, the sound server behind it, needs to show it; the departures of a profile that hide it.
     OPTIONS: tuple = ()
+    HIDDEN_BY: tuple = ()
 
     def __init__(self):
         super().__init__()

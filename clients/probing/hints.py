@@ -13,6 +13,9 @@ from sftp3 import trees
 # The most seconds that all of this takes.
 SECONDS = 20
 
+# The departures that `posix-user` has, and `posix` has not.
+OF_USERS = {"denied", "full"}
+
 # The values that are tried, of options that say how new files and directories are made.
 MADE = [("--umask", value) for value in ("000", "002", "022", "027", "077")] + \
        [("--new-owner", value) for value in ("given", "group", "posix")]
@@ -73,6 +76,22 @@ def of_difference(difference, auditor, tree_file, stop):
         if verdict.accepted or (verdict.record or 0) > difference.verdict.record:
             found.append(f"{option} {value}")
     return found
+
+
+def departures(group):
+    """The names of the departures that would accept the first reply of a group."""
+    found = group.allowed.split(", ") if group.allowed else []
+    return {*found, *(["made"] if "--allow made" in group.accepted_with else [])}
+
+
+def advice(groups, auditor):
+    """What to say of a strict audit whose differences are mostly departures of a profile; None if there is nothing."""
+    found = [names for names in map(departures, groups) if names]
+    if not found or "--profile" in pairs_of(auditor.options):
+        return None
+    profile = "posix-user" if all(names <= OF_USERS for names in found) else "posix"
+    kinds = f"{len(found)} of {len(groups)} kinds are" if len(groups) > 1 else "it is"
+    return f"{kinds} accepted with --profile {profile}, which servers with real file systems need: play again with it"
 
 
 def put_hints(groups, auditor, tree, folder, stop):

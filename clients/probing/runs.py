@@ -267,6 +267,9 @@ class Run:
         wrong = self.write(found)
         for group in found:
             reports.print_group(group.number, group)
+        advice = hints.advice(found, self.auditor)
+        if advice:
+            program.tell(f"probe: {advice}")
         vain = len(self.tally.played) - self.tally.sessions
         if vain:
             program.tell(f"probe: in {vain} session{'s' if vain != 1 else ''} no request was played")

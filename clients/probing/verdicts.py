@@ -77,8 +77,17 @@ def of_audit(done):
     if not accepted and not found:
         raise Trouble(f"the audit ended {servers.ending(done.returncode)}: {' '.join(filter(None, (said, why)))}",
                       3 if done.returncode == 3 else 2)
-    lines = dict(line.split(": ", 1) for line in why.splitlines() if ": " in line and not line.startswith("sftpv3: "))
-    return Verdict(accepted, said or why, *((int(found[1]), found[2]) if found else (None, None)), lines)
+    return Verdict(accepted, said or why, *((int(found[1]), found[2]) if found else (None, None)), explained(why))
+
+
+def explained(why):
+    """The lines of `--explain` by their labels; what has several lines, such as `allowed by`, as one list."""
+    lines = {}
+    for line in why.splitlines():
+        label, colon, text = line.partition(": ")
+        if colon and label != "sftpv3":
+            lines[label] = f"{lines[label]}, {text}" if label in lines else text
+    return lines
 
 
 def run(words, stop, space=None):
