@@ -297,6 +297,55 @@ def wrong_unpacking(program, room):
             yield f"install: dpkg --root {more} ended with status {status}: {printed}"
 
 
+def versions_met(prefix):
+    """Whether one of the installed files had its name before another one was written whole."""
+    files = [it.stat() for it in (prefix / "lib/sftpv3").rglob("*") if it.is_file() and it.parent.name != "__pycache__"]
+    return min(it.st_ctime_ns for it in files) < max(it.st_mtime_ns for it in files)
+
+
+def wrong_upgrade(program, room):
+    """Installs over an earlier version: no session that starts meanwhile finds files of both, and where one file cannot
+    be written, all are left as they were."""
+    prefix = room / "earlier"
+    called(["./install", "--prefix", prefix], program)
+    status, printed = called(["./install", "--prefix", prefix], program)
+    if status or printed or versions_met(prefix):
+        yield f"install: an upgrade gives files their names before all are written; status {status}: {printed}"
+    modules = [*(prefix / "lib/sftpv3").rglob("*.py")]
+    for it in modules:
+        it.write_text("earlier")
+    last = prefix / "share/doc/sftpv3/examples/sftpv3-nightly.cron"
+    for place in (last, last.with_name(f"{last.name}.new")):
+        place.unlink(missing_ok=True)
+        (place / "in the way").mkdir(parents=True)
+        status, printed = called(["./install", "--prefix", prefix], program)
+        found = {it.read_text() for it in modules}
+        left = [it for it in files_below(prefix) if it.endswith(".new")]
+        if (status, printed) != (3, f"install: cannot write {last}\n") or found != {"earlier"} or left:
+            yield f"install: with a folder in the way it ended with status {status}: {printed}; {left}"
+        shutil.rmtree(place)
+
+
+def wrong_interrupts(program, room):
+    """Ends an installation by a signal: nothing of it is left."""
+    temporary, prefix = room / "interrupted", room / "never"
+    temporary.mkdir()
+    for number in (signal.SIGINT, signal.SIGTERM, signal.SIGHUP):
+        for words in (["./install", "--prefix", prefix], ["packaging/deb", room / "never-deb"]):
+            with subprocess.Popen([str(it) for it in words], cwd=TOP, stdin=subprocess.DEVNULL,
+                                  stdout=subprocess.DEVNULL, stderr=subprocess.DEVNULL, start_new_session=True,
+                                  env={**os.environ, "SFTPV3": str(program), "TMPDIR": str(temporary), "DESTDIR": ""},
+                                  preexec_fn=lambda: signal.signal(number, signal.SIG_DFL)) as ran:
+                end = time.monotonic() + LONG
+                while not os.listdir(temporary) and ran.poll() is None and time.monotonic() < end:
+                    time.sleep(0.02)
+                time.sleep(0.5)
+                os.killpg(ran.pid, number)
+            left = [*os.listdir(temporary), *files_below(room / "never"), *files_below(room / "never-deb")]
+            if ran.returncode != 128 + number or left:
+                yield f"install: {number.name} ends {words[0]} with status {ran.returncode} and leaves {left}"
+
+
 def skipped():
     """Yields a line for each program that is not there, and what is therefore not checked."""
     for name, part in TOOLS.items():
@@ -315,7 +364,7 @@ def wrong_installation(program, room):
             *wrong_completion_by_zsh(share, room), *wrong_mode(prefix), *wrong_script_texts(prefix, room),
             *wrong_scripts(prefix, room), *wrong_recorder(prefix, room), *wrong_serve(prefix, room),
             *wrong_removal(program, room), *wrong_prefixes(program, room), *wrong_package(program, room),
-            *wrong_unpacking(program, room)]
+            *wrong_unpacking(program, room), *wrong_upgrade(program, room), *wrong_interrupts(program, room)]
 
 
 def wrong_attacks(program):
