@@ -187,7 +187,8 @@ def add_of_run(add):
     add("--budget", metavar="S", type=pause, default=shrinking.BUDGET,
         help=f"seconds for all shrinking ({shrinking.BUDGET}); 0: none is shrunk")
     add("--first", action="store_true", help="play no more seeds once there is a difference")
-    add("--keep", metavar="FOLDER", default="probe-kept", help="where to keep shrunk sessions (probe-kept)")
+    add("--keep", metavar="FOLDER", default="probe-kept",
+        help="where to keep shrunk sessions; while another run keeps some there, FOLDER.2, ... (probe-kept)")
     add("--report", metavar="FILE",
         help="write a report: a page if the name ends in .html, JUnit if in .xml, else JSON lines")
 
