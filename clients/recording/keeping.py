@@ -367,7 +367,7 @@ class Connection:
 
 
 def listening_at(place):
-    """A socket of this name, to which all can connect. It has the name only once it listens."""
+    """A socket of this name, to which all can connect, and which one it is. It has the name only once it listens."""
     found = place.state()
     if found and not stat.S_ISSOCK(found.st_mode):
         raise OSError(errno.EEXIST, "it is something else")
@@ -379,8 +379,14 @@ def listening_at(place):
         os.umask(before)
     refuse_descriptors(listener)
     listener.listen(BACKLOG)
+    made = identity(new.state())
     new.rename_to(place)
-    return listener
+    return listener, made
+
+
+def identity(found):
+    """Which socket it is: another one may get the number of one that is gone."""
+    return found.st_ino, found.st_mtime_ns
 
 
 class Daemon:
@@ -390,7 +396,8 @@ class Daemon:
         self.options, self.notices, self.signals = options, notices, signals
         self.shares = Shares(self.fit_spool(options.spool), os.path.abspath(options.spool), options)
         self.accounts, self.closing = Accounts(), Closing()
-        self.made = None
+        # where the socket is that was made here, and which one it is
+        self.made = self.identity = None
         self.listener = self.open_listener(options.socket)
         self.listener.setblocking(False)
         self.connections, self.counts = {}, {}
@@ -423,9 +430,19 @@ class Daemon:
             raise Unfit("--socket is needed, unless systemd opens the socket")
         try:
             self.made = ways.location_of(name)
-            return listening_at(self.made)
+            listener, self.identity = listening_at(self.made)
+            return listener
         except OSError as error:
             raise Unfit(f"cannot make the socket {name}: {error.strerror}") from None
+
+    def remove_socket(self):
+        """Removes the socket that was made here, unless another daemon has put its own there since."""
+        try:
+            found = self.made and self.made.state()
+        except OSError:
+            return
+        if found and identity(found) == self.identity:
+            self.made.remove()
 
     def accept(self):
         """Takes the connections that wait, as many as one round allows."""
@@ -534,8 +551,7 @@ class Daemon:
             self.step()
         # not closed before this process ends, when no close lingers: descriptors may be with those who wait there
         self.listener.detach()
-        if self.made:
-            self.made.remove()
+        self.remove_socket()
         for it in list(self.connections.values()):
             self.finish(it)
         return 0
