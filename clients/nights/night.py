@@ -42,6 +42,21 @@ def usual(program_file):
     return ["--profile", profile] + ["--cut"] * ("--cut" in text) + ["--new-owner", "posix"] * ("group, posix" in text)
 
 
+class WrongOption(Exception):
+    """An option behind `--` that the program does not take, and what it says of it."""
+
+
+def try_options(program_file, options):
+    """Raises WrongOption before anything is made by them. The program reads its options first; there are no files."""
+    words = [program_file, "audit", *options, "--explain"]
+    for name in ("--tree", "--transcript", "--out"):
+        words += [name, os.path.join(os.devnull, "none")]
+    done = subprocess.run(words, stdin=subprocess.DEVNULL, stdout=subprocess.DEVNULL, stderr=subprocess.PIPE,
+                          check=False)
+    if done.returncode == 2:
+        raise WrongOption(done.stderr.decode(errors="replace").partition("\n")[0].removeprefix("error: "))
+
+
 def named(lines, given, name):
     """What the program said of a record, by its name and not by the one that the program was given."""
     opening = f"sftpv3: {given} "
@@ -80,6 +95,8 @@ class Night:
         self.options = given.audit or usual(self.program)
         if not any(it.partition("=")[0] == "--memory" for it in self.options):
             self.options += ["--memory", str(given.memory)]
+        if given.audit:
+            try_options(self.program, self.options)
         self.spool = Spool(given.records, given.number)
         self.folders = [os.fsdecode(ways.from_root(os.fsencode(it))) for it in given.folders]
         self.status = self.accepted = self.unanswered = 0
