@@ -194,7 +194,8 @@ def unfit(steps, room):
         steps.check(f"a spool of mode {mode:o} is refused", ran.returncode == 3 and text in ran.stderr, ran.stderr)
 
 
-    for words, text in ((["--log", room.folder / "nowhere/log", room.folder], f"cannot write {room.folder}/nowhere/log"),
+    log = room.folder / "nowhere/log"
+    for words, text in ((["--log", log, room.folder], f"cannot write {log}"),
                         ([""], "cannot use the spool : No such file or directory")):
         ran = subprocess.run([DAEMON, "--socket", room.folder / "socket", *words], stderr=subprocess.PIPE, text=True,
                              timeout=SOON)
@@ -317,5 +318,5 @@ def other_user(steps, room):
         remove_user(OTHER)
 
 
-TRIALS = (kept, lost_spools, hanging_daemon, begun_and_left, limits, hostile, unfit, one_behind_another, activated, few_files, units,
-          other_user)
+TRIALS = (kept, lost_spools, hanging_daemon, begun_and_left, limits, hostile, unfit, one_behind_another, activated,
+          few_files, units, other_user)

@@ -92,6 +92,9 @@ def read_options(words):
     if options is None:
         from recording.parsers import record_parser
         options = record_parser().parse_args(words)
+    for name in VALUES:
+        if value_of(options, name) == "":
+            complain(f"argument {name}: a value is needed")
     rest = options.words
     options.transcript = None if options.spool or not rest else rest.pop(0)
     if rest[:1] == ["--"]:
