@@ -103,6 +103,8 @@ class Night:
         # when the night is over, and whether a record was looked at in it
         self.until, self.is_begun = time.monotonic() + given.night_seconds, False
         self.has_running = False
+        # why the folders could not be read, while a session ran
+        self.unread = None
         self.numbers = Numbers()
         self.held = ways.own_folder(os.path.join(given.state, given.user))
         # all that is kept is named from there, whatever becomes of the way to it
@@ -283,11 +285,15 @@ class Night:
             self.tidy()
             raise Failed(f"the folders were not read within {self.given.look_seconds:g} seconds (--look-seconds)"
                          ) from None
+        if self.spool.records():
+            # it may have changed what was read
+            self.unread = found.last if found.status else None
+            return None
         if found.status:
             hint = f" (a third of --memory, {self.given.memory} bytes)" \
                 if "--most" in found.last else ""
             raise Failed(f"{found.last}{hint}")
-        return None if self.spool.records() else (now, found)
+        return now, found
 
     def compare(self):
         """Compares the last tree with the folders, and starts anew from what they have. Returns whether that could be
@@ -316,7 +322,8 @@ class Night:
         since = time.strftime(" since %Y-%m-%d %H:%M %z", time.localtime(last)) if last else ""
         is_late = not 0 <= time.time() - last < 3600 * self.given.longest
         why = "a session runs, so " if self.has_running else ""
-        self.say(f"{self.counted()}; {why}the folder is not compared{since}", int(is_late))
+        unread = f" ({self.unread})" if self.unread else ""
+        self.say(f"{self.counted()}; {why}the folder is not compared{since}{unread}", int(is_late))
 
     def counted(self):
         unanswered = f", {self.unanswered} of them with unanswered requests" if self.unanswered else ""
