@@ -21,8 +21,8 @@ import time
 from recording import naming, ways
 from recording.descriptors import Closing, received, refuse_descriptors
 from recording.shares import Accounts, Refused, Shares
+from recording.sinks import SPOOL_OPENING, peer
 
-OPENING = b"SFTPSP01"
 # The longest batch: what a buffer of recording/packets.py holds, and a byte for each of its packets.
 LONGEST_BATCH = 2 << 20
 # How many batches of a connection are written in one turn.
@@ -35,7 +35,6 @@ CONNECTIONS = 1000
 BACKLOG, TAKEN = 1024, 128
 # How long no connection is taken when there are no descriptors left.
 PAUSE = 0.5
-PEER = struct.Struct("3i")
 # What is said of such users, whichever they are: there can be thousands.
 NO_ACCOUNT = "this user has no account (--any-uid)"
 
@@ -49,7 +48,7 @@ class Connection:
 
     def __init__(self, link, daemon):
         self.link, self.shares, self.closing = link, daemon.shares, daemon.closing
-        self.process, self.user, _ = PEER.unpack(link.getsockopt(socket.SOL_SOCKET, socket.SO_PEERCRED, PEER.size))
+        self.process, self.user = peer(link)
         self.since = time.monotonic()
         self.held, self.replies = bytearray(), b""
         self.file, self.name, self.written = None, None, 0
@@ -80,7 +79,7 @@ class Connection:
         if len(self.held) < head:
             return None
         if self.file is None:
-            if self.held[:8] != OPENING:
+            if self.held[:8] != SPOOL_OPENING:
                 raise Refused("it does not speak as a recorder")
             return head + self.held[8]
         length = int.from_bytes(self.held[:4], "big")
