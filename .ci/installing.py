@@ -135,14 +135,22 @@ def wrong_syntax(share):
 # What the completions of bash make of the last of some words.
 COMPLETED = [(["sftpv3", "aud"], "audit"), (["sftpv3-probe", "--see"], "--seeds"),
              (["sftpv3", "audit", "--profile", ""], "posix posix-user"),
-             (["sftpv3", "infer", "--allow", "dots,sp"], "dots,special"), (["sftpv3", "audit", "--most", ""], "")]
+             (["sftpv3", "infer", "--allow", "dots,sp"], "dots,special"), (["sftpv3", "audit", "--most", ""], ""),
+             (["sftpv3-tree", "--limits", ""], "usual raised most fit"), (["sftpv3-tree", "--mode", ""], ""),
+             (["sftpv3-probe", "--skip", "nul,sla"], "nul,slash"), (["sftpv3-probe", "--also", ""], "large long-target"),
+             (["sftpv3-probe", "--", "sftpv3", "aud"], "2: aud"), (["sftpv3-record", "t", "sftpv3", "aud"], "2: aud"),
+             (["sftpv3-record", "--plain", "--log", "l", "t", "sft"], "5: sft"),
+             (["sftpv3-record", "--spool", "s", "sftpv3", "aud"], "3: aud"), (["sftpv3-record", "--log", "l", "--pl"],
+                                                                             "--plain")]
+# What stands for the completions of another command: the place of its name, and the word.
+OFFSET = "_command_offset() { COMPREPLY=(\"$1:\" \"${COMP_WORDS[COMP_CWORD]}\"); }\n"
 
 
 def wrong_completion(share):
     """Asks the completions of bash, if there is one, what they make of the beginning of a word."""
     for words, wanted in COMPLETED if shutil.which("bash") else []:
         name, typed = words[0], " ".join(f"'{it}'" for it in words)
-        script = f"source '{share}/bash-completion/completions/{name}'\nCOMP_WORDS=({typed})\n" \
+        script = f"{OFFSET}source '{share}/bash-completion/completions/{name}'\nCOMP_WORDS=({typed})\n" \
                  f'COMP_CWORD={len(words) - 1}\n_{name.replace("-", "_")}\necho "${{COMPREPLY[@]}}"'
         printed = called(["bash", "-c", script], "")[1]
         if printed != f"{wanted}\n":
@@ -151,7 +159,9 @@ def wrong_completion(share):
 
 # What zsh makes of a line when a tab is typed behind it.
 COMPLETED_BY_ZSH = [("sftpv3 aud", "audit"), ("sftpv3-probe --see", "--seeds"), ("sftpv3-probe -- sftpv3 aud", "audit"),
-                    ("sftpv3-walk --to x -- sftpv3 aud", "audit"), ("sftpv3-record --plain t sftpv3 aud", "audit")]
+                    ("sftpv3-walk --to x -- sftpv3 aud", "audit"), ("sftpv3-record --plain t sftpv3 aud", "audit"),
+                    ("sftpv3 audit --allow dots,sp", "dots,special"), ("sftpv3-tree --limits us", "usual"),
+                    ("sftpv3-probe --skip nul,sla", "nul,slash")]
 ZSHRC = """PS1='READY> '
 fpath=({share}/zsh/site-functions $fpath)
 path=({share}/../bin $path)

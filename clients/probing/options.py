@@ -108,6 +108,8 @@ def names_among(known):
         if unknown:
             raise argparse.ArgumentTypeError(f"there is no {', '.join(unknown)}: --help lists what there is")
         return found
+    # what completions offer
+    names.known = sorted(known)
     return names
 
 
