@@ -240,6 +240,8 @@ def wrong_removal(program, room):
     prefix, plain = room / "removed", room / "plain"
     for words in (["./install", "--prefix", prefix],
                   [prefix / "bin/sftpv3-page", TOP / "examples/wrong-byte.transcript", "-o", room / "removed.html"],
+                  # as an installation leaves it that is killed
+                  ["cp", prefix / "bin/sftpv3", prefix / "lib/sftpv3/recording/ways.py.new"],
                   ["./install", "--uninstall", "--prefix", prefix]):
         status, printed = called(words, program)
         if status or printed:
