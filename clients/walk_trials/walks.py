@@ -191,6 +191,18 @@ def try_strict(steps, folder):
                 status == 0 and b'F "/d/e/f"' in text and b"abcdefghij" not in text and b'"/many' not in text, said)
 
 
+def try_absent(steps, folder):
+    """A place of --below that is not there, as by a slip: no tree is one in which it is absent."""
+    start, to = (os.path.join(folder, name) for name in ("there.tree", "absent.tree"))
+    trees.write(starting.usual(), start)
+    status, said = walk(folder, ["--below", "/d", "--below", "/dd", "--to", to], [program(), "serve", "--tree", start])
+    steps.check("a place of --below that is not there: status 3, and no tree", status == 3 and
+                '"/dd" is not there; no tree is written' in said and not os.path.exists(to), f"{status}: {said}")
+    status, said = walk(folder, ["--below", "/dd", "--session", to], [program(), "serve", "--tree", start])
+    steps.check("with --session alone it is told, and the session is recorded", status == 0 and os.path.exists(to) and
+                '"/dd" cannot be looked at: 2 NO_SUCH_FILE' in said, f"{status}: {said}")
+
+
 def try_posix(steps, folder):
     """A live folder of OpenSSH's server."""
     if not has_openssh(steps):
