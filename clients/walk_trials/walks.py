@@ -203,6 +203,16 @@ def try_absent(steps, folder):
                 '"/dd" cannot be looked at: 2 NO_SUCH_FILE' in said, f"{status}: {said}")
 
 
+def try_limited(steps, folder):
+    """Where the system allows no file as long as the tree, it is said that this is why there is none."""
+    start, to = (os.path.join(folder, name) for name in ("long.tree", "limited.tree"))
+    trees.write(trees.Tree([trees.Entry(b"/f", trees.FILE, bytes(3000))]), start)
+    status, said = run([WALK, "--no-contents", "--to", to, "--", program(), "serve", "--tree", start], folder,
+                       preexec_fn=lambda: resource.setrlimit(resource.RLIMIT_FSIZE, (2048, 2048)))
+    steps.check("a tree longer than a file may be: status 3, and why", status == 3 and "File too large" in said and
+                to in said and not os.path.exists(to), f"{status}: {said}")
+
+
 def try_posix(steps, folder):
     """A live folder of OpenSSH's server."""
     if not has_openssh(steps):
