@@ -135,14 +135,22 @@ def wrong_syntax(share):
 # What the completions of bash make of the last of some words.
 COMPLETED = [(["sftpv3", "aud"], "audit"), (["sftpv3-probe", "--see"], "--seeds"),
              (["sftpv3", "audit", "--profile", ""], "posix posix-user"),
-             (["sftpv3", "infer", "--allow", "dots,sp"], "dots,special"), (["sftpv3", "audit", "--most", ""], "")]
+             (["sftpv3", "infer", "--allow", "dots,sp"], "dots,special"), (["sftpv3", "audit", "--most", ""], ""),
+             (["sftpv3-tree", "--limits", ""], "usual raised most fit"), (["sftpv3-tree", "--mode", ""], ""),
+             (["sftpv3-probe", "--skip", "nul,sla"], "nul,slash"), (["sftpv3-probe", "--also", ""], "large long-target"),
+             (["sftpv3-probe", "--", "sftpv3", "aud"], "2: aud"), (["sftpv3-record", "t", "sftpv3", "aud"], "2: aud"),
+             (["sftpv3-record", "--plain", "--log", "l", "t", "sft"], "5: sft"),
+             (["sftpv3-record", "--spool", "s", "sftpv3", "aud"], "3: aud"), (["sftpv3-record", "--log", "l", "--pl"],
+                                                                             "--plain")]
+# What stands for the completions of another command: the place of its name, and the word.
+OFFSET = "_command_offset() { COMPREPLY=(\"$1:\" \"${COMP_WORDS[COMP_CWORD]}\"); }\n"
 
 
 def wrong_completion(share):
     """Asks the completions of bash, if there is one, what they make of the beginning of a word."""
     for words, wanted in COMPLETED if shutil.which("bash") else []:
         name, typed = words[0], " ".join(f"'{it}'" for it in words)
-        script = f"source '{share}/bash-completion/completions/{name}'\nCOMP_WORDS=({typed})\n" \
+        script = f"{OFFSET}source '{share}/bash-completion/completions/{name}'\nCOMP_WORDS=({typed})\n" \
                  f'COMP_CWORD={len(words) - 1}\n_{name.replace("-", "_")}\necho "${{COMPREPLY[@]}}"'
         printed = called(["bash", "-c", script], "")[1]
         if printed != f"{wanted}\n":
@@ -151,7 +159,9 @@ def wrong_completion(share):
 
 # What zsh makes of a line when a tab is typed behind it.
 COMPLETED_BY_ZSH = [("sftpv3 aud", "audit"), ("sftpv3-probe --see", "--seeds"), ("sftpv3-probe -- sftpv3 aud", "audit"),
-                    ("sftpv3-walk --to x -- sftpv3 aud", "audit"), ("sftpv3-record --plain t sftpv3 aud", "audit")]
+                    ("sftpv3-walk --to x -- sftpv3 aud", "audit"), ("sftpv3-record --plain t sftpv3 aud", "audit"),
+                    ("sftpv3 audit --allow dots,sp", "dots,special"), ("sftpv3-tree --limits us", "usual"),
+                    ("sftpv3-probe --skip nul,sla", "nul,slash")]
 ZSHRC = """PS1='READY> '
 fpath=({share}/zsh/site-functions $fpath)
 path=({share}/../bin $path)
@@ -230,6 +240,8 @@ def wrong_removal(program, room):
     prefix, plain = room / "removed", room / "plain"
     for words in (["./install", "--prefix", prefix],
                   [prefix / "bin/sftpv3-page", TOP / "examples/wrong-byte.transcript", "-o", room / "removed.html"],
+                  # as an installation leaves it that is killed
+                  ["cp", prefix / "bin/sftpv3", prefix / "lib/sftpv3/recording/ways.py.new"],
                   ["./install", "--uninstall", "--prefix", prefix]):
         status, printed = called(words, program)
         if status or printed:
@@ -297,6 +309,55 @@ def wrong_unpacking(program, room):
             yield f"install: dpkg --root {more} ended with status {status}: {printed}"
 
 
+def versions_met(prefix):
+    """Whether one of the installed files had its name before another one was written whole."""
+    files = [it.stat() for it in (prefix / "lib/sftpv3").rglob("*") if it.is_file() and it.parent.name != "__pycache__"]
+    return min(it.st_ctime_ns for it in files) < max(it.st_mtime_ns for it in files)
+
+
+def wrong_upgrade(program, room):
+    """Installs over an earlier version: no session that starts meanwhile finds files of both, and where one file cannot
+    be written, all are left as they were."""
+    prefix = room / "earlier"
+    called(["./install", "--prefix", prefix], program)
+    status, printed = called(["./install", "--prefix", prefix], program)
+    if status or printed or versions_met(prefix):
+        yield f"install: an upgrade gives files their names before all are written; status {status}: {printed}"
+    modules = [*(prefix / "lib/sftpv3").rglob("*.py")]
+    for it in modules:
+        it.write_text("earlier")
+    last = prefix / "share/doc/sftpv3/examples/sftpv3-nightly.cron"
+    for place in (last, last.with_name(f"{last.name}.new")):
+        place.unlink(missing_ok=True)
+        (place / "in the way").mkdir(parents=True)
+        status, printed = called(["./install", "--prefix", prefix], program)
+        found = {it.read_text() for it in modules}
+        left = [it for it in files_below(prefix) if it.endswith(".new")]
+        if (status, printed) != (3, f"install: cannot write {last}\n") or found != {"earlier"} or left:
+            yield f"install: with a folder in the way it ended with status {status}: {printed}; {left}"
+        shutil.rmtree(place)
+
+
+def wrong_interrupts(program, room):
+    """Ends an installation by a signal: nothing of it is left."""
+    temporary, prefix = room / "interrupted", room / "never"
+    temporary.mkdir()
+    for number in (signal.SIGINT, signal.SIGTERM, signal.SIGHUP):
+        for words in (["./install", "--prefix", prefix], ["packaging/deb", room / "never-deb"]):
+            with subprocess.Popen([str(it) for it in words], cwd=TOP, stdin=subprocess.DEVNULL,
+                                  stdout=subprocess.DEVNULL, stderr=subprocess.DEVNULL, start_new_session=True,
+                                  env={**os.environ, "SFTPV3": str(program), "TMPDIR": str(temporary), "DESTDIR": ""},
+                                  preexec_fn=lambda: signal.signal(number, signal.SIG_DFL)) as ran:
+                end = time.monotonic() + LONG
+                while not os.listdir(temporary) and ran.poll() is None and time.monotonic() < end:
+                    time.sleep(0.02)
+                time.sleep(0.5)
+                os.killpg(ran.pid, number)
+            left = [*os.listdir(temporary), *files_below(room / "never"), *files_below(room / "never-deb")]
+            if ran.returncode != 128 + number or left:
+                yield f"install: {number.name} ends {words[0]} with status {ran.returncode} and leaves {left}"
+
+
 def skipped():
     """Yields a line for each program that is not there, and what is therefore not checked."""
     for name, part in TOOLS.items():
@@ -315,7 +376,7 @@ def wrong_installation(program, room):
             *wrong_completion_by_zsh(share, room), *wrong_mode(prefix), *wrong_script_texts(prefix, room),
             *wrong_scripts(prefix, room), *wrong_recorder(prefix, room), *wrong_serve(prefix, room),
             *wrong_removal(program, room), *wrong_prefixes(program, room), *wrong_package(program, room),
-            *wrong_unpacking(program, room)]
+            *wrong_unpacking(program, room), *wrong_upgrade(program, room), *wrong_interrupts(program, room)]
 
 
 def wrong_attacks(program):

@@ -1,5 +1,6 @@
 """What is checked of scripts without the built program: that they can be read, and what the tools that are installed
 find in them. Each check yields a line for each mistake."""
+import ast
 import re
 import shutil
 import subprocess
@@ -50,8 +51,44 @@ def wrong_python(names: list[str]) -> Iterator[str]:
         except SyntaxError as error:
             wrong = True
             yield f"{name}:{error.lineno}: {error.msg}"
+    yield from too_new([it for it in found if it.startswith(INSTALLED)])
     if found and reader() and not wrong:
         yield from (it for it in said([*reader(), *found]) if not is_meant(it))
+
+
+# What is installed is among these; the oldest version of Python that reads it; and names that only later ones have.
+INSTALLED = ("clients/", "packaging/")
+OLDEST = (3, 9)
+LATER = {"F_SETPIPE_SZ", "F_GETPIPE_SZ", "pairwise", "file_digest", "StrEnum", "UTC"}
+
+
+def annotations_of(node: ast.AST) -> Iterator[ast.expr]:
+    """Yields the annotations of a definition or an assignment."""
+    if isinstance(node, (ast.FunctionDef, ast.AnnAssign)):
+        given = [it.annotation for it in ast.walk(node.args) if isinstance(it, ast.arg)] \
+            if isinstance(node, ast.FunctionDef) else [node.annotation]
+        yield from filter(None, [*given, getattr(node, "returns", None)])
+
+
+def has_union(annotation: ast.expr) -> bool:
+    return any(isinstance(it, ast.BinOp) and isinstance(it.op, ast.BitOr) for it in ast.walk(annotation))
+
+
+def too_new(names: list[str]) -> Iterator[str]:
+    """Finds what the oldest version of Python does not read, or has not. Unions are read there if nobody asks for
+    annotations."""
+    for name in scripts(names, "python"):
+        try:
+            tree = ast.parse((TOP / name).read_text(errors="replace"), name, feature_version=OLDEST)
+        except SyntaxError as error:
+            yield f"{name}:{error.lineno}: {error.msg}"
+            continue
+        is_later = any(isinstance(it, ast.ImportFrom) and it.module == "__future__" for it in tree.body)
+        for node in ast.walk(tree):
+            if isinstance(node, ast.Attribute) and node.attr in LATER:
+                yield f"{name}:{node.lineno}: {node.attr} is not in Python {OLDEST[0]}.{OLDEST[1]}"
+            if not is_later and any(map(has_union, annotations_of(node))):
+                yield f"{name}:{node.lineno}: a union in an annotation, without `from __future__ import annotations`"
 
 
 def wrong_shell(names: list[str]) -> Iterator[str]:

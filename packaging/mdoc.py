@@ -82,3 +82,10 @@ def quoted(text):
     """Returns a text inside an argument of zsh's _arguments, which is in single quotes."""
     text = re.sub(r"([\\\[\]:])", r"\\\1", text)
     return text.replace("'", "'\\''")
+
+
+def chosen_by_zsh(words, value):
+    """Returns the action of zsh for a value that is one of these words; with the name `WORD,...` of a list, some."""
+    if not words:
+        return " "
+    return f"_values -s , {quoted(value)} {' '.join(words)}" if value.endswith(",...") else f"({' '.join(words)})"

@@ -37,6 +37,16 @@ class Scripts(unittest.TestCase):
         # no script
         self.assertEqual(list(scripts.wrong_python(self.script("print(1\n"))), [])
 
+    def test_reads_what_is_installed_as_the_oldest_python_does(self):
+        head = "#!/usr/bin/python3 -IS\n"
+        for text, wanted in (("def f(x: int | None): pass\n", "script:2: a union in an annotation"),
+                             ("x: int | None = 1\n", "script:2: a union in an annotation"),
+                             ("match 1:\n    case 1: pass\n", "script:3: Pattern matching is only supported in"),
+                             ("import fcntl\nfcntl.F_SETPIPE_SZ\n", "script:3: F_SETPIPE_SZ"),
+                             ("from __future__ import annotations\ndef f(x: int | None): pass\ny = 1 | 2\n", "")):
+            found = "\n".join(scripts.too_new(self.script(head + text)))
+            self.assertTrue(wanted in found and bool(wanted) == bool(found), found)
+
     @unittest.skipUnless(scripts.reader(), "neither ruff nor pyflakes is installed")
     def test_reads_names_of_python(self):
         wrong = list(scripts.wrong_python(self.script("#!/usr/bin/env python3\nimport os\nprint(here)\n")))

@@ -42,6 +42,21 @@ def usual(program_file):
     return ["--profile", profile] + ["--cut"] * ("--cut" in text) + ["--new-owner", "posix"] * ("group, posix" in text)
 
 
+class WrongOption(Exception):
+    """An option behind `--` that the program does not take, and what it says of it."""
+
+
+def try_options(program_file, options):
+    """Raises WrongOption before anything is made by them. The program reads its options first; there are no files."""
+    words = [program_file, "audit", *options, "--explain"]
+    for name in ("--tree", "--transcript", "--out"):
+        words += [name, os.path.join(os.devnull, "none")]
+    done = subprocess.run(words, stdin=subprocess.DEVNULL, stdout=subprocess.DEVNULL, stderr=subprocess.PIPE,
+                          check=False)
+    if done.returncode == 2:
+        raise WrongOption(done.stderr.decode(errors="replace").partition("\n")[0].removeprefix("error: "))
+
+
 def named(lines, given, name):
     """What the program said of a record, by its name and not by the one that the program was given."""
     opening = f"sftpv3: {given} "
@@ -80,12 +95,16 @@ class Night:
         self.options = given.audit or usual(self.program)
         if not any(it.partition("=")[0] == "--memory" for it in self.options):
             self.options += ["--memory", str(given.memory)]
+        if given.audit:
+            try_options(self.program, self.options)
         self.spool = Spool(given.records, given.number)
         self.folders = [os.fsdecode(ways.from_root(os.fsencode(it))) for it in given.folders]
         self.status = self.accepted = self.unanswered = 0
         # when the night is over, and whether a record was looked at in it
         self.until, self.is_begun = time.monotonic() + given.night_seconds, False
         self.has_running = False
+        # why the folders could not be read, while a session ran
+        self.unread = None
         self.numbers = Numbers()
         self.held = ways.own_folder(os.path.join(given.state, given.user))
         # all that is kept is named from there, whatever becomes of the way to it
@@ -266,11 +285,15 @@ class Night:
             self.tidy()
             raise Failed(f"the folders were not read within {self.given.look_seconds:g} seconds (--look-seconds)"
                          ) from None
+        if self.spool.records():
+            # it may have changed what was read
+            self.unread = found.last if found.status else None
+            return None
         if found.status:
             hint = f" (a third of --memory, {self.given.memory} bytes)" \
                 if "--most" in found.last else ""
             raise Failed(f"{found.last}{hint}")
-        return None if self.spool.records() else (now, found)
+        return now, found
 
     def compare(self):
         """Compares the last tree with the folders, and starts anew from what they have. Returns whether that could be
@@ -299,7 +322,8 @@ class Night:
         since = time.strftime(" since %Y-%m-%d %H:%M %z", time.localtime(last)) if last else ""
         is_late = not 0 <= time.time() - last < 3600 * self.given.longest
         why = "a session runs, so " if self.has_running else ""
-        self.say(f"{self.counted()}; {why}the folder is not compared{since}", int(is_late))
+        unread = f" ({self.unread})" if self.unread else ""
+        self.say(f"{self.counted()}; {why}the folder is not compared{since}{unread}", int(is_late))
 
     def counted(self):
         unanswered = f", {self.unanswered} of them with unanswered requests" if self.unanswered else ""

@@ -3,6 +3,9 @@
 A file is made under a name that nobody can foresee, for its user alone, and then gets its name: no link is followed
 there, and none of another user on the way.
 """
+import fcntl
+import functools
+import itertools
 import os
 import stat
 
@@ -31,6 +34,24 @@ def write_text(name, text):
 def folder(name):
     """Makes a folder for its user alone, with those above it, or takes one of this user that no other can write to."""
     os.close(ways.own_folder(name))
+
+
+@functools.cache
+def held(name):
+    """Makes a folder so, which no other process holds, and holds it until the end: NAME, or NAME.2, NAME.3, .., since
+    two that write at once would mix what they keep. Returns its name."""
+    for number in itertools.count(1):
+        place = name if number == 1 else f"{name.rstrip('/')}.{number}"
+        made = ways.own_folder(place)
+        try:
+            fcntl.flock(made, fcntl.LOCK_EX | fcntl.LOCK_NB)
+        except BlockingIOError:
+            os.close(made)
+            continue
+        except OSError:
+            # a file system without locks
+            pass
+        return place
 
 
 def is_foreign(name):

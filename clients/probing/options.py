@@ -108,6 +108,8 @@ def names_among(known):
         if unknown:
             raise argparse.ArgumentTypeError(f"there is no {', '.join(unknown)}: --help lists what there is")
         return found
+    # what completions offer
+    names.known = sorted(known)
     return names
 
 
@@ -187,7 +189,8 @@ def add_of_run(add):
     add("--budget", metavar="S", type=pause, default=shrinking.BUDGET,
         help=f"seconds for all shrinking ({shrinking.BUDGET}); 0: none is shrunk")
     add("--first", action="store_true", help="play no more seeds once there is a difference")
-    add("--keep", metavar="FOLDER", default="probe-kept", help="where to keep shrunk sessions (probe-kept)")
+    add("--keep", metavar="FOLDER", default="probe-kept",
+        help="where to keep shrunk sessions; while another run keeps some there, FOLDER.2, ... (probe-kept)")
     add("--report", metavar="FILE",
         help="write a report: a page if the name ends in .html, JUnit if in .xml, else JSON lines")
 

@@ -44,8 +44,7 @@ def text_of(judge, name):
 def keep(judge, folder, number, group, kept):
     """Keeps the tree, the transcript, their texts and the reason of a group in a folder of its own."""
     name = re.sub(r"[^a-z0-9]+", "-", f"{group.request} {group.found}".lower()).strip("-")[:50].strip("-")
-    place = os.path.join(folder, f"{number:02}-{name}")
-    files.folder(folder)
+    place = os.path.join(files.held(folder), f"{number:02}-{name}")
     files.folder(place)
     keep_server(place, kept.difference)
     files.write(os.path.join(place, "start.tree"), kept.difference.session.start or trees.put(kept.tree))

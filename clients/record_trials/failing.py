@@ -34,7 +34,8 @@ def commands(steps, room):
     steps.check("a command that is not executable: one line", ran.stderr.count(b"\n") == 1, str(ran.stderr))
     ran = run(room, "--help")
     steps.check("--help: status 0, on standard output", ran.returncode == 0 and b"--plain" in ran.stdout)
-    for words in ((), ("t",), ("--unknown", "t", "true"), ("a%q", "true"), ("--audit", "t", "true")):
+    for words in ((), ("t",), ("--unknown", "t", "true"), ("a%q", "true"), ("--audit", "t", "true"),
+                  ("--times", "", "t", "true"), ("--log=", "t", "true"), ("--spool", "", "t", "true", "true")):
         ran = run(room, *words)
         steps.check(f"wrong usage {words}: status 2", ran.returncode == 2, f"{ran.returncode}: {ran.stderr}")
         steps.check(f"wrong usage {words}: no traceback", b"Traceback" not in ran.stderr)

@@ -12,7 +12,7 @@ from record_trials.failing import limited, run
 from record_trials.steps import INIT, PROGRAM, STUB, close, errors, open_session, receive
 from recording import naming
 from recording.options import AUDIT_FLAGS, AUDIT_VALUES, audit_words, plainly_read
-from sftp3 import request
+from sftp3 import request, trees
 from trials.processes import SOON, ended, executable, wait_until
 
 LINE = "audit: refused record 8: UnknownReply"
@@ -83,6 +83,24 @@ def accepted(steps, room):
     steps.check("a right session: status 0", ended(process, SOON) == 0)
     steps.check("a right session: the log has the verdict, standard error nothing",
                 "audit: accepted 1 requests" in log(room) and errors(process) == "", log(room))
+
+
+def long_trees(steps, room):
+    """A tree at the end that is longer than a file may be: the log says so."""
+    tree = room.folder / "long.tree"
+    trees.write(trees.Tree([trees.Entry(b"/f", trees.FILE, bytes(3000))]), str(tree))
+    process = room.stub("t", options=["--audit", "--program", PROGRAM, "--tree", tree, "--out", "out", "--log", "log"],
+                        preexec_fn=lambda: resource.setrlimit(resource.RLIMIT_FSIZE, (2048, 2048)))
+    open_session(process)
+    process.stdin.write(request(1, "MKDIR", b"/a", {}))
+    receive(process, 21)
+    close(process.stdin)
+    ended(process, SOON)
+    steps.check("a last tree that is longer than a file may be: the log says so",
+                "ended with status 3: sftpv3: cannot write out" in log(room) and "File too large" in log(room),
+                log(room))
+    steps.check("and nothing of it is left", sorted(os.listdir(room.folder)) == ["log", "long.tree", "t"],
+                os.listdir(room.folder))
 
 
 def bad_auditors(steps, room):
@@ -238,5 +256,5 @@ def known_options(steps, _):
     steps.check("the audit has each option that the recorder passes on to it", not unknown, " ".join(unknown))
 
 
-TRIALS = (memory, known_options, wrong_replies, stopped, accepted, bad_auditors, behind, system_log, logs, lost_records,
-          long_packets, full_logs, chained)
+TRIALS = (memory, known_options, wrong_replies, stopped, accepted, long_trees, bad_auditors, behind, system_log, logs,
+          lost_records, long_packets, full_logs, chained)

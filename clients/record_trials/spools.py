@@ -194,6 +194,30 @@ def unfit(steps, room):
         steps.check(f"a spool of mode {mode:o} is refused", ran.returncode == 3 and text in ran.stderr, ran.stderr)
 
 
+    log = room.folder / "nowhere/log"
+    for words, text in ((["--log", log, room.folder], f"cannot write {log}"),
+                        ([""], "cannot use the spool : No such file or directory")):
+        ran = subprocess.run([DAEMON, "--socket", room.folder / "socket", *words], stderr=subprocess.PIPE, text=True,
+                             timeout=SOON)
+        steps.check(f"what cannot be opened is named: {text.replace(str(room.folder), '..')}",
+                    ran.returncode == 3 and text in ran.stderr, ran.stderr)
+
+
+def one_behind_another(steps, room):
+    """A daemon that ends leaves the socket alone that another one has made since, by the same name."""
+    first = Spool(room)
+    before = first.socket.stat().st_ino
+    second = Spool(room)
+    steps.check("a second daemon takes the name of the socket",
+                wait_until(lambda: first.socket.stat().st_ino != before))
+    steps.check("the first one ends", first.end() == 0)
+    process = second.session(options=["--required"])
+    steps.check("the second one has its socket still", len(open_session(process)) == 9 and second.socket.exists())
+    close(process.stdin)
+    ended(process, SOON)
+    steps.check("which goes with it", second.end() == 0 and not second.socket.exists())
+
+
 def activated(steps, room):
     """The socket that systemd opens."""
     folder = room.folder / "spool"
@@ -294,5 +318,5 @@ def other_user(steps, room):
         remove_user(OTHER)
 
 
-TRIALS = (kept, lost_spools, hanging_daemon, begun_and_left, limits, hostile, unfit, activated, few_files, units,
-          other_user)
+TRIALS = (kept, lost_spools, hanging_daemon, begun_and_left, limits, hostile, unfit, one_behind_another, activated,
+          few_files, units, other_user)

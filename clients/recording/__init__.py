@@ -16,7 +16,9 @@ server    the server's process: its start, its end, its status
 auditing  an audit that reads along
 sessions  the loop that passes packets on, how it ends, and what the client of a session that ends still awaits
 forced    what ForceCommand put the recorder in the place of
-keeping   the daemon that keeps records in a spool, and what each user has of one
+shares    what each user has of a spool
+descriptors  connections by which others may pass descriptors
+keeping   the daemon that keeps records in a spool
 options   the commands
 ending    signals that end other scripts in order
 children  processes that other scripts start and wait for

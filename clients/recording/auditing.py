@@ -52,9 +52,10 @@ class Audit:
 
     def __init__(self, words, notices):
         self.notices = notices
+        # it ignores SIGXFSZ as Python itself, so that it says which file may not be longer, and leaves nothing
         self.process = subprocess.Popen([*words, "--transcript", "/dev/stdin"], stdin=subprocess.PIPE,
                                         stdout=subprocess.PIPE, stderr=subprocess.STDOUT, bufsize=0,
-                                        start_new_session=True)
+                                        start_new_session=True, restore_signals=False)
         self.input, self.output = self.process.stdin.fileno(), self.process.stdout.fileno()
         os.set_blocking(self.input, False)
         os.set_blocking(self.output, False)

@@ -7,10 +7,8 @@ together. It closes the connection if it does not record (any further). A batch 
 
 One user cannot hold up the others: a connection has one turn in each round, in which so much is read, so many batches
 are written and one reply is sent, and each user has so many connections. Users without an account have none, since one
-person may have thousands of them. `Shares` counts what each user has of the spool.
-
-A descriptor that a user passes may take long to close (SO_LINGER), so the daemon never drops the last reference to one.
-Linux 6.16 refuses them. Elsewhere all that comes is looked at first; a connection with one is `Closing`'s.
+person may have thousands of them. shares.py counts what each user has of the spool, and descriptors.py closes the
+connections by which descriptors came.
 """
 import errno
 import os
@@ -20,147 +18,15 @@ import stat
 import struct
 import time
 
-from recording import mounted, naming, ways
+from recording import naming, ways
+from recording.descriptors import Closing, received, refuse_descriptors
+from recording.shares import Accounts, Refused, Shares
+from recording.sinks import SPOOL_OPENING, peer
 
-# How many files a file system has to have left for a new record.
-FILES_LEFT = 64
-# How long the count of a user who has all of their share stands, before the folder is looked at again; and whether a
-# user has an account, and of how many users that is held.
-STANDS, USERS = 10, 4096
-
-
-class Refused(Exception):
-    """A session that is not recorded (any further)."""
-
-
-class Accounts:
-    """Which users have an account. To look it up can take long, so it stands for a while."""
-
-    def __init__(self):
-        self.known = {}
-
-    def has(self, user):
-        """Whether a user has one, as of some seconds ago at most."""
-        now = time.monotonic()
-        found, looked = self.known.get(user, (False, -STANDS))
-        if now - looked >= STANDS:
-            if len(self.known) >= USERS:
-                self.known.clear()
-            found = naming.has_account(user)
-            self.known[user] = found, now
-        return found
-
-
-class Share:
-    """The records of one user: those of ended sessions, too, until somebody takes them out of the folder, which has
-    this name in the spool."""
-
-    def __init__(self, spool, name, most):
-        self.spool, self.name, self.most = spool, name, most
-        self.look()
-
-    def open(self):
-        """Opens the folder, which is made if it is not there."""
-        try:
-            os.mkdir(self.name, 0o700, dir_fd=self.spool)
-        except FileExistsError:
-            pass
-        return os.open(self.name, mounted.FOLDER, dir_fd=self.spool)
-
-    def look(self):
-        """Counts what is in the folder, no more than as many records as there may be."""
-        self.records = self.used = 0
-        held = self.open()
-        try:
-            self.count_in(held)
-        finally:
-            os.close(held)
-        self.looked = time.monotonic()
-
-    def count_in(self, folder):
-        with os.scandir(folder) as found:
-            for it in found:
-                self.records += 1
-                self.used += it.stat(follow_symlinks=False).st_size
-                if self.records >= self.most:
-                    break
-
-    def allows(self, holds):
-        """Whether a limit holds, by the count, or else by a new one."""
-        if holds(self):
-            return True
-        if time.monotonic() - self.looked < STANDS:
-            return False
-        self.look()
-        return holds(self)
-
-
-class Shares:
-    """The users of a spool that is open, as far as they came since the daemon's start."""
-
-    def __init__(self, spool, path, options):
-        self.spool, self.path, self.options = spool, path, options
-        self.by_user = {}
-
-    def share_of(self, user):
-        if user not in self.by_user:
-            name = naming.user_name(user)
-            self.by_user[user] = Share(self.spool, name, self.options.records_per_user)
-        return self.by_user[user]
-
-    def begin(self, user, name):
-        """Takes room for a record. Returns where it is to be."""
-        try:
-            share = self.share_of(user)
-            if not share.allows(lambda it: it.records < self.options.records_per_user):
-                raise Refused("this user has too many records")
-            self.check_free(0)
-            place = ways.Location(share.open(), name, os.path.join(self.path, share.name, name))
-        except OSError as error:
-            raise Refused(f"cannot look at the records: {error.strerror}") from None
-        share.records += 1
-        return place
-
-    def take_back(self, user, path):
-        """Removes a record of this user in which nothing was written."""
-        share = self.share_of(user)
-        try:
-            folder = share.open()
-        except OSError:
-            # somebody put the folder away, with all that is in it
-            return
-        try:
-            os.unlink(os.path.basename(path), dir_fd=folder)
-            share.records -= 1
-        except OSError:
-            # somebody took it out of the folder
-            pass
-        finally:
-            os.close(folder)
-
-    def take(self, user, written, count):
-        """Takes room for so many bytes more of a record."""
-        share = self.by_user[user]
-        if written + count > self.options.per_session:
-            raise Refused("the record is too long")
-        if not share.allows(lambda it: it.used + count <= self.options.per_user):
-            raise Refused("the records of this user are too long")
-        self.check_free(count)
-        share.used += count
-
-    def check_free(self, count):
-        found = os.fstatvfs(self.spool)
-        # a file system without a number of files of its own says 0 of all
-        if found.f_bavail * found.f_frsize - count < self.options.keep_free or \
-                found.f_files and found.f_favail < FILES_LEFT:
-            raise Refused("the spool is full")
-
-
-OPENING = b"SFTPSP01"
 # The longest batch: what a buffer of recording/packets.py holds, and a byte for each of its packets.
 LONGEST_BATCH = 2 << 20
-# What a connection has in one turn.
-READ, BATCHES = 1 << 18, 256
+# How many batches of a connection are written in one turn.
+BATCHES = 256
 # How long a recorder may take to say who the client is.
 HELLO_SECONDS = 5
 # How many connections there may be that have not said it, and in all.
@@ -169,7 +35,6 @@ CONNECTIONS = 1000
 BACKLOG, TAKEN = 1024, 128
 # How long no connection is taken when there are no descriptors left.
 PAUSE = 0.5
-PEER = struct.Struct("3i")
 # What is said of such users, whichever they are: there can be thousands.
 NO_ACCOUNT = "this user has no account (--any-uid)"
 
@@ -178,91 +43,12 @@ class Unfit(Exception):
     """A spool or a socket that cannot be used."""
 
 
-# SO_PASSRIGHTS of Linux 6.16.
-PASS_RIGHTS = 83
-# How many processes may be at the close of connections.
-CLOSERS = 16
-
-
-def refuse_descriptors(link):
-    """Has the kernel refuse descriptors that others pass, if it can. What has been sent before stays."""
-    try:
-        link.setsockopt(socket.SOL_SOCKET, PASS_RIGHTS, 0)
-    except OSError:
-        # `received` finds them
-        pass
-
-
-def received(link):
-    """What has come, unless there is a descriptor with it: then all of it stays where it is."""
-    data, _, flags, _ = link.recvmsg(READ, 0, socket.MSG_PEEK)
-    if flags & socket.MSG_CTRUNC:
-        raise Refused("it passes descriptors")
-    return link.recv(len(data)) if data else data
-
-
-def is_emptied(link):
-    """Has no more come by a connection, and takes what came. Whether no descriptor is left in it."""
-    try:
-        link.shutdown(socket.SHUT_RDWR)
-        while received(link):
-            pass
-    except Refused:
-        return False
-    except OSError:
-        # the other side is gone, which is said when all has been taken
-        pass
-    return True
-
-
-class Closing:
-    """The connections with descriptors. They are closed by the end of other processes, for which nobody waits."""
-
-    def __init__(self):
-        self.waiting, self.processes = [], set()
-
-    def close(self, link):
-        if is_emptied(link):
-            link.close()
-        else:
-            self.waiting.append(link.detach())
-
-    def step(self):
-        """Gives those that wait to a process, unless too many processes have not ended."""
-        self.processes = {it for it in self.processes if os.waitpid(it, os.WNOHANG)[0] == 0}
-        if not self.waiting or len(self.processes) >= CLOSERS:
-            return
-        mine, others = os.pipe()
-        try:
-            child = os.fork()
-            if child == 0:
-                self.end_last(mine, others)
-            self.processes.add(child)
-            for it in self.waiting:
-                os.close(it)
-            self.waiting = []
-        except OSError:
-            # no process can be made now
-            pass
-        finally:
-            os.close(mine)
-            os.close(others)
-
-    def end_last(self, mine, others):
-        """Ends this process once the daemon has closed what it has here, too."""
-        try:
-            os.close(others)
-            os.read(mine, 1)
-        finally:
-            os._exit(0)
-
-
 class Connection:
     """A recorder that is connected, and its record."""
 
     def __init__(self, link, daemon):
         self.link, self.shares, self.closing = link, daemon.shares, daemon.closing
-        self.process, self.user, _ = PEER.unpack(link.getsockopt(socket.SOL_SOCKET, socket.SO_PEERCRED, PEER.size))
+        self.process, self.user = peer(link)
         self.since = time.monotonic()
         self.held, self.replies = bytearray(), b""
         self.file, self.name, self.written = None, None, 0
@@ -293,7 +79,7 @@ class Connection:
         if len(self.held) < head:
             return None
         if self.file is None:
-            if self.held[:8] != OPENING:
+            if self.held[:8] != SPOOL_OPENING:
                 raise Refused("it does not speak as a recorder")
             return head + self.held[8]
         length = int.from_bytes(self.held[:4], "big")
@@ -367,7 +153,7 @@ class Connection:
 
 
 def listening_at(place):
-    """A socket of this name, to which all can connect. It has the name only once it listens."""
+    """A socket of this name, to which all can connect, and which one it is. It has the name only once it listens."""
     found = place.state()
     if found and not stat.S_ISSOCK(found.st_mode):
         raise OSError(errno.EEXIST, "it is something else")
@@ -379,8 +165,14 @@ def listening_at(place):
         os.umask(before)
     refuse_descriptors(listener)
     listener.listen(BACKLOG)
+    made = identity(new.state())
     new.rename_to(place)
-    return listener
+    return listener, made
+
+
+def identity(found):
+    """Which socket it is: another one may get the number of one that is gone."""
+    return found.st_ino, found.st_mtime_ns
 
 
 class Daemon:
@@ -390,7 +182,8 @@ class Daemon:
         self.options, self.notices, self.signals = options, notices, signals
         self.shares = Shares(self.fit_spool(options.spool), os.path.abspath(options.spool), options)
         self.accounts, self.closing = Accounts(), Closing()
-        self.made = None
+        # where the socket is that was made here, and which one it is
+        self.made = self.identity = None
         self.listener = self.open_listener(options.socket)
         self.listener.setblocking(False)
         self.connections, self.counts = {}, {}
@@ -423,9 +216,19 @@ class Daemon:
             raise Unfit("--socket is needed, unless systemd opens the socket")
         try:
             self.made = ways.location_of(name)
-            return listening_at(self.made)
+            listener, self.identity = listening_at(self.made)
+            return listener
         except OSError as error:
             raise Unfit(f"cannot make the socket {name}: {error.strerror}") from None
+
+    def remove_socket(self):
+        """Removes the socket that was made here, unless another daemon has put its own there since."""
+        try:
+            found = self.made and self.made.state()
+        except OSError:
+            return
+        if found and identity(found) == self.identity:
+            self.made.remove()
 
     def accept(self):
         """Takes the connections that wait, as many as one round allows."""
@@ -534,8 +337,7 @@ class Daemon:
             self.step()
         # not closed before this process ends, when no close lingers: descriptors may be with those who wait there
         self.listener.detach()
-        if self.made:
-            self.made.remove()
+        self.remove_socket()
         for it in list(self.connections.values()):
             self.finish(it)
         return 0

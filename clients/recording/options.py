@@ -92,6 +92,9 @@ def read_options(words):
     if options is None:
         from recording.parsers import record_parser
         options = record_parser().parse_args(words)
+    for name in VALUES:
+        if value_of(options, name) == "":
+            complain(f"argument {name}: a value is needed")
     rest = options.words
     options.transcript = None if options.spool or not rest else rest.pop(0)
     if rest[:1] == ["--"]:
@@ -172,16 +175,28 @@ class Records:
             it.remove()
 
 
+class NotOpened(Exception):
+    """A log that cannot be written, and why."""
+
+
+def open_log(name, notices):
+    """Opens the log of this name, if one is wanted."""
+    try:
+        if name:
+            notices.open_log(name)
+    except OSError as error:
+        raise NotOpened(f"cannot write {name}: {naming.reason(error)}") from None
+
+
 def open_notices(options):
     about = f"{naming.user_name(os.getuid())} {naming.address(os.environ)} {options.transcript or options.spool}"
     notices = Notices(NAME, about)
     if options.syslog:
         notices.open_syslog()
-    if options.log:
-        try:
-            notices.open_log(options.log)
-        except OSError as error:
-            notices.say(f"cannot write {options.log}: {naming.reason(error)}")
+    try:
+        open_log(options.log, notices)
+    except NotOpened as error:
+        notices.say(str(error))
     return notices
 
 
@@ -304,11 +319,10 @@ def keep_records(options):
     notices = Notices("sftpv3-recordd")
     if options.syslog:
         notices.open_syslog()
-    if options.log:
-        notices.open_log(options.log)
     try:
+        open_log(options.log, notices)
         return keeping.Daemon(options, notices, Signals()).run()
-    except keeping.Unfit as error:
+    except (NotOpened, keeping.Unfit) as error:
         notices.say(str(error))
         return OWN_FAILURE
 

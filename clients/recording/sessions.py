@@ -5,7 +5,6 @@ Whatever ends first ends the session: the other pipes are closed, and a server t
 IDLE seconds and SIGKILL after KILL more. One that still works, or whose replies a client still awaits, has `grace`
 seconds from the last of these that came or that the client took. What nobody asked for gives it no time.
 """
-import fcntl
 import os
 import select
 import time
@@ -14,6 +13,7 @@ from recording import signals
 from recording.greetings import text_at
 from recording.packets import Flow
 from recording.sinks import Failed
+from recording.starts import widen
 
 
 IDLE = 0.4
@@ -52,14 +52,6 @@ class Signals(signals.Waking):
         self.has_child_ended = True
 
 
-def widen(file):
-    """Makes a pipe one that holds more, as far as the system allows it: sshd's have 64 KiB, and sshd waits for us."""
-    try:
-        fcntl.fcntl(file, fcntl.F_SETPIPE_SZ, PIPE)
-    except OSError:
-        pass
-
-
 class Ends:
     """The client's two ends, as descriptors of our own, so that they can be closed. 0 and 1 lead nowhere then."""
 
@@ -72,7 +64,8 @@ class Ends:
         self.were_blocking = {it: os.get_blocking(it) for it in (self.input, self.output)}
         for it in self.were_blocking:
             os.set_blocking(it, False)
-        widen(self.input)
+        # sshd's pipes hold 64 KiB, and sshd waits for us
+        widen(self.input, PIPE)
 
     def close(self, file):
         if file in self.were_blocking:

@@ -6,7 +6,7 @@ import struct
 
 from recording import ways
 
-# The form of the socket of a spool: recording/keeping.py has it.
+# How what is sent to a spool begins: recording/keeping.py has its form.
 SPOOL_OPENING = b"SFTPSP01"
 SPOOL_SECONDS = 5
 # Who is at the other end of a socket: process, user, group.
@@ -18,6 +18,13 @@ TIMES_OPENING = b"SFTPTM01"
 
 # How many pieces one call writes at most.
 MOST_PIECES = 256
+
+
+def peer(link):
+    """The process and the user at the other end of a socket, as the system knows them."""
+    import socket
+    process, user, _ = PEER.unpack(link.getsockopt(socket.SOL_SOCKET, socket.SO_PEERCRED, PEER.size))
+    return process, user
 
 
 class Failed(Exception):
@@ -140,8 +147,7 @@ class SpoolSink:
 
     def look_who_listens(self, place):
         """Refuses a socket that another user could have made in place of the daemon's."""
-        import socket
-        _, user, _ = PEER.unpack(self.socket.getsockopt(socket.SOL_SOCKET, socket.SO_PEERCRED, PEER.size))
+        _, user = peer(self.socket)
         found = ways.fault([*place.above, (place.path, place.state(), False)], user)
         if not found and user not in (0, os.geteuid(), place.folder_state().st_uid):
             found = "it is of a user whom its folder does not belong to"

@@ -1,14 +1,26 @@
 """What the recorder and sftpv3-serve start: the program that was installed with them, whether a process has ended, and
-why a command cannot run."""
+why a command cannot run; and pipes that hold more."""
 from __future__ import annotations
 
 import os
+
+# F_SETPIPE_SZ of Linux, which Python 3.9 has not.
+SET_PIPE_SIZE = 1031
 
 
 def program_beside() -> str:
     """The program of which this is lib/sftpv3/recording/starts.py; else one of PATH."""
     name = os.path.realpath(os.path.join(os.path.dirname(__file__), "../../../bin/sftpv3"))
     return name if os.path.exists(name) else "sftpv3"
+
+
+def widen(pipe: int, room: int):
+    """Makes a pipe one that holds so much, as far as the system allows it."""
+    try:
+        import fcntl
+        fcntl.fcntl(pipe, SET_PIPE_SIZE, room)
+    except OSError:
+        pass
 
 
 def exit_code(process: int) -> int | None:

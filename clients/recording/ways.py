@@ -206,6 +206,8 @@ def here(given: str) -> bytes:
 
 def way_of(path: bytes, given: str) -> Way:
     """The beginning of the way that a path has."""
+    if not path:
+        raise OSError(errno.ENOENT, os.strerror(errno.ENOENT), given)
     if path.startswith(b"/"):
         return Way(b"/", given)
     here(given)

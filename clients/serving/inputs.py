@@ -4,11 +4,14 @@ A socket of the system itself, which sshd, sftp and sshfs give, is the server's 
 come and then its end. Nothing is copied. Of a pipe only who writes to it makes the end. So the server has a pipe of
 ours, to which the system moves what comes, by splice: it is not copied either, where the system has that.
 """
+from __future__ import annotations
+
 import os
 import select
 import stat
 
 from recording import ways
+from recording.starts import widen
 
 try:
     import _socket as sockets
@@ -17,7 +20,6 @@ except ImportError:
 
 # How much our pipe holds, where the system allows it, and how much is moved at once.
 ROOM = 1 << 20
-SET_PIPE_SIZE = 1031
 
 
 def is_local_socket(file: int) -> bool:
@@ -70,11 +72,7 @@ class Filled:
         # how much is still to come, once the end is wanted
         self.left = None
         self.move = spliced if hasattr(os, "splice") else copied
-        try:
-            import fcntl
-            fcntl.fcntl(self.pipe, SET_PIPE_SIZE, ROOM)
-        except OSError:
-            pass
+        widen(self.pipe, ROOM)
         os.set_blocking(self.pipe, False)
 
     def wanted(self) -> dict[int, int]:

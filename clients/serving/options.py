@@ -1,4 +1,6 @@
 """The command line: what is for the script, and what goes on to `sftpv3 serve`."""
+from __future__ import annotations
+
 from recording import naming
 from recording.starts import program_beside
 from recording.ways import named_twice

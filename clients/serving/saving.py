@@ -5,6 +5,8 @@ is still the one that was there at the start; otherwise it becomes the first of 
 who holds the lock of the file that was there at the start may replace it, and nothing else is ever overwritten. So of
 sessions that end at once one replaces FILE.
 """
+from __future__ import annotations
+
 import errno
 import os
 import stat

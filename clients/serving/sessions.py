@@ -1,4 +1,6 @@
 """The server's process, the signals, the log; a session from its start to its end."""
+from __future__ import annotations
+
 import os
 import select
 import time

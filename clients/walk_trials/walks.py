@@ -191,6 +191,28 @@ def try_strict(steps, folder):
                 status == 0 and b'F "/d/e/f"' in text and b"abcdefghij" not in text and b'"/many' not in text, said)
 
 
+def try_absent(steps, folder):
+    """A place of --below that is not there, as by a slip: no tree is one in which it is absent."""
+    start, to = (os.path.join(folder, name) for name in ("there.tree", "absent.tree"))
+    trees.write(starting.usual(), start)
+    status, said = walk(folder, ["--below", "/d", "--below", "/dd", "--to", to], [program(), "serve", "--tree", start])
+    steps.check("a place of --below that is not there: status 3, and no tree", status == 3 and
+                '"/dd" is not there; no tree is written' in said and not os.path.exists(to), f"{status}: {said}")
+    status, said = walk(folder, ["--below", "/dd", "--session", to], [program(), "serve", "--tree", start])
+    steps.check("with --session alone it is told, and the session is recorded", status == 0 and os.path.exists(to) and
+                '"/dd" cannot be looked at: 2 NO_SUCH_FILE' in said, f"{status}: {said}")
+
+
+def try_limited(steps, folder):
+    """Where the system allows no file as long as the tree, it is said that this is why there is none."""
+    start, to = (os.path.join(folder, name) for name in ("long.tree", "limited.tree"))
+    trees.write(trees.Tree([trees.Entry(b"/f", trees.FILE, bytes(3000))]), start)
+    status, said = run([WALK, "--no-contents", "--to", to, "--", program(), "serve", "--tree", start], folder,
+                       preexec_fn=lambda: resource.setrlimit(resource.RLIMIT_FSIZE, (2048, 2048)))
+    steps.check("a tree longer than a file may be: status 3, and why", status == 3 and "File too large" in said and
+                to in said and not os.path.exists(to), f"{status}: {said}")
+
+
 def try_posix(steps, folder):
     """A live folder of OpenSSH's server."""
     if not has_openssh(steps):

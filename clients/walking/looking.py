@@ -63,6 +63,8 @@ class Walk:
         self.notes, self.contents, self.left, self.most_entries = notes, contents, most, most_entries
         self.entries = self.names = 0
         self.looked = set()
+        # the places to look at that are not there
+        self.absent = []
         # what is to be done, the last first: iterators over the steps of tasks
         self.stack = [iter([self.begin(places)])]
 
@@ -85,7 +87,7 @@ class Walk:
         found = {path: real(path, reply) for path, reply in zip(asked, replies)}
         for place in reversed(list(dict.fromkeys(places))):
             absolute = place if place.startswith(b"/") else within(found[b"."], place)
-            self.later([self.way(absolute), self.way(found[place]), self.entry(found[place])])
+            self.later([self.way(absolute), self.way(found[place]), self.entry(found[place], is_asked_for=True)])
 
     def way(self, path):
         """Looks at what is on the way to a place: directories and links."""
@@ -96,10 +98,12 @@ class Walk:
                  if reply.attributes and kind_of(reply.attributes) == LINK]
         yield [ask("READLINK", place) for place in links]
 
-    def entry(self, path):
+    def entry(self, path, is_asked_for=False):
         """Looks at what is at a place, and then at what is in it."""
         (found,) = yield [ask("LSTAT", path)]
         if found.attributes is None:
+            if is_asked_for and found.code == sftp3.NO_SUCH_FILE:
+                self.absent.append(path)
             self.notes.add(path, f"cannot be looked at: {found.why()}")
             return
         kind = kind_of(found.attributes)
