@@ -9,7 +9,7 @@ import itertools
 
 import sftp3
 from probing import plans
-from probing.model import DIRECTORY, FILE, LINK, Model, apply
+from probing.model import FILE, LINK, Model, apply
 from probing.planner import few_empty
 from probing.plans import Step
 from probing.transfers import listing

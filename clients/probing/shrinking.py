@@ -261,7 +261,7 @@ def of_names(steps, last):
     for number in handles & set(opened):
         names |= names_of(opened[number])
     kept = [step for step in before if step.number in handles or opener(step) in handles or names & names_of(step)]
-    wanted = {opener(step) for step in kept} | {step.number for step in kept}
+    wanted = {opener(step) for step in kept} - {None} | {step.number for step in kept}
     return [step for step in before if step.number in wanted or opener(step) in wanted] + [last]
 
 
