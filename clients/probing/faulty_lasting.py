@@ -30,6 +30,9 @@ def clean(path):
 class sound(planted.Bug):
     """Right: what a session leaves is there in the next."""
 
+    # the options of `serve`
+    OPTIONS: tuple = ()
+
     def __init__(self):
         super().__init__()
         # the requests by their ids; what is open; renames that were done, and sizes that were set; how long files were
@@ -115,6 +118,20 @@ class sound(planted.Bug):
             for other in self.after.values():
                 if other.kind == FURTHER and other.content == path:
                     other.content = entry.path
+
+
+class sound_times(sound):
+    """Right: and so are times."""
+
+    OPTIONS = ("--times",)
+
+
+class times_lost(sound_times):
+    """All have the time at which the server was started."""
+
+    def lose(self):
+        for entry in self.after.values():
+            entry.times = trees.NO_TIMES
 
 
 class last_block_lost(sound):
@@ -322,7 +339,7 @@ def main():
     is_first = not os.path.exists(saved)
     server = fault()
     status = planted.passed(server, [program(), "serve", "--tree", tree if is_first else saved, "--save", saved,
-                                     "--no-sync"])
+                                     "--no-sync", *fault.OPTIONS])
     if is_first:
         with open(tree, "rb") as before, open(saved, "rb") as after:
             left = server.lost(trees.get(before.read()), trees.get(after.read()))

@@ -34,12 +34,15 @@ OTHERS = {"permissions": 0o646}
 LEFT_OPEN = b"/left-open"
 BYTES = plans.part(0, 9001)
 
+# The times that a file gets last, which nothing may have changed by the second start.
+TIMES = {"times": (1_000_000_000, 1_000_000_002)}
+
 # Requests that change something at a path.
 CHANGING = ("SETSTAT", "REMOVE", "MKDIR", "RMDIR", "RENAME", "SYMLINK", "POSIX-RENAME", "HARDLINK")
 
 
 class Places(dict):
-    """The entries of a model by their places. Knows each place that ever had one, those that got one last at the
+    """The entries of a model by their places. Knows each place that ever had one, those that were changed last at the
     end."""
 
     def __init__(self, given):
@@ -47,9 +50,12 @@ class Places(dict):
         self.ever = dict.fromkeys(given)
 
     def __setitem__(self, place, entry):
+        self.change(place)
+        super().__setitem__(place, entry)
+
+    def change(self, place):
         self.ever.pop(place, None)
         self.ever[place] = None
-        super().__setitem__(place, entry)
 
 
 class Left:
@@ -75,7 +81,10 @@ class Left:
             self.numbers.add(opened.number)
         if step.name in CHANGING:
             paths = [value for value in step.fields if isinstance(value, bytes)]
-            self.places.update(self.model.walk(path, step.name == "SETSTAT") for path in paths)
+            places = {self.model.walk(path, step.name == "SETSTAT") for path in paths}
+            for place in places & self.model.places.keys():
+                self.places.add(place)
+                self.model.places.change(place)
 
     def is_changed(self, place):
         entry = self.model.at(place)
@@ -152,30 +161,31 @@ class Looking:
         for places in found:
             yield [self.ask("LSTAT", path(place)) for place in places[1:3]]
 
-    def all(self, skip):
-        """All steps, without those that go together with one that is to be left out."""
-        together = itertools.chain(self.things(), self.links(), self.listings(), self.files(), self.pairs())
-        return [step for steps in together if not any(step.tags & skip for step in steps) for step in steps]
+    def parts(self):
+        """All steps, those together that hang on each other."""
+        return itertools.chain(self.things(), self.links(), self.listings(), self.files(), self.pairs())
 
 
 def path(place):
     return b"/" + b"/".join(place)
 
 
-def leaving_open(model, numbers):
-    """The steps that leave files open: a new one, and one that is there already."""
+def last_words(model, numbers):
+    """What the session does last, in parts: it leaves files open, a new one and one that is there already, and sets the
+    times of another."""
     def ask(name, *fields):
         return Step(next(numbers), name, list(fields))
+
+    def left_open(name, flags, data):
+        step = ask("OPEN", name, sftp3.WRITE | flags, {})
+        return [step, ask("WRITE", step.opened(), 0, data)]
     names = (LEFT_OPEN + b"-%d" % number for number in itertools.count(1))
     new = next(name for name in names if model.walk(name, False) not in model.places)
-    step = ask("OPEN", new, sftp3.WRITE | sftp3.CREAT | sftp3.EXCL, {})
-    yield step
-    yield ask("WRITE", step.opened(), 0, BYTES)
-    files = [place for place in model.of_kind(FILE) if len(place) == 1]
+    yield left_open(new, sftp3.CREAT | sftp3.EXCL, BYTES)
+    files = list({model.at(place).number: place for place in model.of_kind(FILE) if len(place) == 1}.values())
     if files:
-        step = ask("OPEN", path(files[0]), sftp3.WRITE, {})
-        yield step
-        yield ask("WRITE", step.opened(), 0, b"left open")
+        yield left_open(path(files[0]), 0, b"left open")
+        yield [ask("SETSTAT", path(files[-1]), TIMES)] if len(files) > 1 else []
 
 
 def lasting(steps, tree, skip=frozenset()):
@@ -184,9 +194,13 @@ def lasting(steps, tree, skip=frozenset()):
     last = plans.last_number(steps) + GAP
     numbers = (number % plans.IDS for number in itertools.count(last))
     left = Left(steps, tree)
-    opening = list(leaving_open(left.model, numbers))
-    opening = [] if any(step.tags & skip for step in opening) else opening
-    for step in opening:
+    ending = without(last_words(left.model, numbers), skip)
+    for step in ending:
         left.take(step)
-    looks = Looking(left, numbers, tree.most_read()).all(skip)
-    return [*steps, *opening, *map(plans.asked_again, looks)]
+    looks = without(Looking(left, numbers, tree.most_read()).parts(), skip)
+    return [*steps, *ending, *map(plans.asked_again, looks)]
+
+
+def without(parts, skip):
+    """The steps of these parts, without those that go together with one that is to be left out."""
+    return [step for steps in parts if not any(step.tags & skip for step in steps) for step in steps]
