@@ -90,7 +90,9 @@ class Plan:
     def tell_apart(self, worker, session, judged):
         """What comes without a second start, too, says nothing of what lasts: it is taken as it comes then. Where time
         is over before that is known, what came behind the second start is not taken."""
-        found = [one for one in judged.differences if one.is_again]
+        def key_of(one):
+            return one.number, groups.plain_key(one)
+        found = {key_of(one): one for one in judged.differences if one.is_again}
         judged.differences = [one for one in judged.differences if not one.is_again]
         if worker.again.may_begin_anew and worker.begins_anew(session, self.stop):
             worker.again.fail(ANEW, for_good=True)
@@ -100,11 +102,9 @@ class Plan:
             _, without = worker.play(self.tree, steps, self.in_flight, self.seed, self.stop, cut=self.cut)
         except (sessions.Stopped, NotStarted):
             return
-        keys = {(one.number, groups.plain_key(one)) for one in found}
-        there = [one for one in without.differences if (one.number, groups.plain_key(one)) in keys]
-        keys = {(one.number, groups.plain_key(one)) for one in there}
-        judged.differences += [one for one in found if (one.number, groups.plain_key(one)) not in keys]
-        self.taken_along = there, steps
+        there = {key_of(one): one for one in without.differences if key_of(one) in found}
+        judged.differences += [one for key, one in found.items() if key not in there]
+        self.taken_along = list(there.values()), steps
 
     def take(self, differences, steps=None):
         for one in differences:
