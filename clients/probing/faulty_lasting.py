@@ -37,6 +37,7 @@ class sound(planted.Bug):
         super().__init__()
         # the requests by their ids; what is open; renames that were done, and sizes that were set; how long files were
         self.asked, self.opened, self.renamed, self.sizes, self.lengths = {}, {}, [], {}, {}
+        self.replaced = set()
         # the entries at the start and at the end of the session, by their paths
         self.before, self.after = {}, {}
 
@@ -66,6 +67,7 @@ class sound(planted.Bug):
             self.opened.pop(asked.handle(), None)
         elif asked.name in ("RENAME", "POSIX-RENAME"):
             self.renamed.append(tuple(map(clean, asked.fields)))
+            self.replaced |= {self.renamed[-1][1]} if asked.name == "POSIX-RENAME" else set()
         elif asked.name in ("SETSTAT", "FSETSTAT") and "size" in asked.fields[1]:
             path = self.opened.get(asked.handle()) if asked.handle() is not None else clean(asked.fields[0])
             self.sizes[path] = asked.fields[1]["size"]
@@ -286,14 +288,13 @@ class cut_undone(sound):
                 entry.content += bytes(length - size)
 
 
-class replaced_again(sound):
-    """A file that another one replaced by posix-rename has its old bytes."""
+class replaced_empty(sound):
+    """A file that got its path by posix-rename is empty, as where names are on the disk before bytes are."""
 
     def lose(self):
-        for _, new in self.renamed:
-            entry, old = self.after.get(new), self.before.get(new)
-            if entry and old and entry.kind == old.kind == FILE:
-                entry.content = old.content
+        for entry in self.files():
+            if entry.path in self.replaced:
+                entry.content = b""
 
 
 class names_parted(sound):

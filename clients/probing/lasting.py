@@ -198,7 +198,14 @@ def lasting(steps, tree, skip=frozenset()):
     for step in ending:
         left.take(step)
     looks = without(Looking(left, numbers, tree.most_read()).parts(), skip)
-    return [*steps, *ending, *map(plans.asked_again, looks)]
+    return [*steps, *ending, *map(tagged, looks)]
+
+
+def tagged(step):
+    """The step as one of a second start, by which --skip may name it."""
+    found = plans.asked_again(step)
+    found.tags = step.tags | {"lasting"}
+    return found
 
 
 def without(parts, skip):

@@ -40,8 +40,8 @@ LARGEST = 1 << 30
 
 # The folder that `--folder` names, if it is given; and what the help says of it.
 kept = []
-OF_FOLDER = """With --folder, the server's files are in this folder, and stay there: they are made from the tree if it is
-empty, and else are those that the last session left. Nobody but this user may enter it."""
+OF_FOLDER = """With --folder, the server's files are in this folder, and stay there: they are made from the tree if it
+is empty, and else are those that the last session left. Nobody but this user may enter it."""
 
 # Where the program stands for a moment.
 ASIDE = ".sftpv3-start"
