@@ -62,12 +62,6 @@ class bytes_kept(sound):
     KEPT = ("READ",)
 
 
-class links_kept(sound):
-    """READLINK and REALPATH give what they gave before, until the session itself changes something."""
-
-    KEPT = ("READLINK", "REALPATH")
-
-
 class absence_kept(sound):
     """What STAT and LSTAT did not find, they do not find, until the session itself changes something."""
 

@@ -179,8 +179,8 @@ def add_of_plans(add):
         help=f"of how many sessions one has a fourth of its requests sent in pieces ({PIECES}); 0: in none")
     add("--skip", metavar="NAME,...", type=names_among(SKIPPED), default=[], help="what to leave out of the plans")
     add("--also", metavar="NAME,...", type=names_among(features.ALSO), default=[],
-        help="what to plan besides: large, long-target, for which a server has room, and the tree may not; two-clients, "
-             "which have each session together, one request after the other")
+        help="what to plan besides: large, long-target, for which a server has room, and the tree may not; and "
+             "two-clients, which have each session together, one request after the other")
     add("--session", metavar="FILE", help="play the requests of this transcript, not those of seeds")
     add("--start-again", metavar="N", type=positive,
         help="start the server again on the same files before the N-th request of --session")
