@@ -43,6 +43,10 @@ FEATURES = {
 # leave it out unless `--also` names it.
 BEYOND = {"large", "long-target"}
 
+# What `--also` takes: these, and what a session has besides.
+TOGETHER = "two-clients"
+ALSO = BEYOND | {TOGETHER}
+
 # The most bytes of a name, and fewer than any system takes for a path.
 NAME_LIMIT, PATH_LIMIT = 255, 4096
 

@@ -77,8 +77,9 @@ def steps_of(transcript):
         fields = list(request.fields)
         if request.handle() in given:
             fields[0] = given[request.handle()].opened()
-        # numbers of their own, since a client may use an id again
-        steps.append(Step(len(steps) + 1, request.name, fields))
+        # numbers of their own, since a client may use an id again; odd ones stay odd, as two clients go by that
+        number = steps[-1].number + 1 if steps else 1
+        steps.append(Step(number + (number - request.number) % 2, request.name, fields))
         asked[request.number] = steps[-1]
     return steps
 

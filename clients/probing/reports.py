@@ -28,6 +28,7 @@ def keep_server(place, difference):
                      f"in flight: {session.in_flight}\nseed: {difference.seed}\n"
                      f"in pieces: {'no' if session.cut is None else 'yes'}\n"
                      f"started again: {started_again(difference)}\n"
+                     f"clients: {'two' if session.is_together else 'one'}\n"
                      f"session: {session.end or 'each request had its reply'}\nended: {session.ending()}\n")
     whole = os.path.join(place, "whole.transcript")
     if session.records != difference.records:

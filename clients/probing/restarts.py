@@ -10,7 +10,7 @@ and is no difference.
 import threading
 
 import sftp3
-from probing import plans, program, servers, sessions
+from probing import plans, program, servers, sessions, together
 
 # After how many starts that failed no more are tried.
 MOST_FAILED = 3
@@ -20,10 +20,12 @@ class Restarts:
     """What is known of starting a run's server again: how often it came about, and why it did not. A server has so
     many seconds to end by itself before: one that is stopped may not have put down all."""
 
-    def __init__(self, is_wanted, parting, may_begin_anew=False):
+    def __init__(self, is_wanted, parting, may_begin_anew=False, is_together=False):
         self.is_wanted, self.parting, self.lock = is_wanted, max(parting, servers.PARTING), threading.Lock()
         # whether the server may be meant to have its first files each time it is started
         self.may_begin_anew = may_begin_anew
+        # whether two clients have a session together
+        self.is_together = is_together
         self.done = self.failed = 0
         self.why = None
 
@@ -71,7 +73,10 @@ def play(server, tree_file, steps, in_flight, timeout, stop, cut, restarts):
     before, behind = plans.parted(steps)
     behind = behind if restarts.is_wanted else []
     parting = restarts.parting if behind else servers.PARTING
-    session = sessions.play(server, tree_file, before, in_flight, timeout, stop, cut, parting)
+    if restarts.is_together:
+        session = together.play(server, tree_file, before, timeout, stop, cut, parting)
+    else:
+        session = sessions.play(server, tree_file, before, in_flight, timeout, stop, cut, parting)
     if behind and session.status is None and session.end is None:
         restarts.fail(f"the server does not end within {parting:g} seconds once its input has", for_good=True)
     elif behind and session.is_over():

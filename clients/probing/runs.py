@@ -159,7 +159,8 @@ class Run:
             self.recorded = plans.started_again(self.recorded, given.start_again)
         # what is named by {folder} is there for what lasts
         self.again = restarts.Restarts(options.keeps_files(given) and "lasting" not in given.skip, given.timeout,
-                                       given.reset is not None and not server.has("{folder}"))
+                                       given.reset is not None and not server.has("{folder}"),
+                                       features.TOGETHER in given.also)
         is_known = server.takes_tree() or given.look_first is not None
         if not is_known and not given.tree:
             raise options.Wrong(ownfiles.NO_TREE)

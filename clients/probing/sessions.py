@@ -57,6 +57,8 @@ class Session:
     start: Optional[bytes] = None
     # Where requests went in pieces, the number that says which; else None.
     cut: Optional[int] = None
+    # Whether two clients had it together, each on a connection of its own.
+    is_together: bool = False
     # The place of the first record once the server was started again on the same files, or None if it was not.
     again: Optional[int] = None
 
@@ -102,6 +104,9 @@ class Player:
     """Sends the steps, with up to `in_flight` of them unanswered, and records all that passes. Extensions that VERSION
     does not announce are left out, and with `only_given` those through handles that were never given. `stop` is an
     event that ends it. Handles that are `taken` by other things are recorded by names of their own."""
+
+    # The names of handles in the record that are taken.
+    NAME = b"again %d"
 
     def __init__(self, running, steps, in_flight, timeout, stop, cut=None, only_given=False, taken=frozenset()):
         self.running, self.in_flight, self.timeout, self.stop = running, in_flight, timeout, stop
@@ -165,6 +170,10 @@ class Player:
 
     def play(self):
         self.opening()
+        self.run()
+
+    def run(self):
+        """Asks all that waits, until each request has its reply."""
         while not self.session.end and (self.waiting or self.unanswered):
             self.ask()
             self.exchange()
@@ -241,12 +250,16 @@ class Player:
         elif reply.handle is not None:
             self.handles[reply.number] = reply.handle
 
+    def is_taken(self, handle):
+        """Whether the record has this handle for something else."""
+        return handle in self.taken
+
     def recorded(self, packet):
         """A reply as it is recorded: a handle that is taken has another name."""
         with suppress(sftp3.Malformed):
             handle = sftp3.Reply(packet).handle
-            if handle in self.taken:
-                name = self.named.setdefault(handle, b"again %d" % len(self.named))
+            if self.is_taken(handle):
+                name = self.named.setdefault(handle, self.NAME % len(self.named))
                 return sftp3.packet(sftp3.HANDLE, packet[5:9] + sftp3.string(name))
         return packet
 

@@ -233,6 +233,7 @@ class Folder:
         """Makes what the tree has, unless an earlier session did."""
         is_new = ROOT not in os.listdir(self.lock)
         if is_new:
+            fcntl.flock(self.lock, fcntl.LOCK_EX)
             os.mkdir(ROOT, 0o755, dir_fd=self.lock)
         if self.is_apart:
             mounts.without_set_id(self.mounted())
@@ -240,6 +241,8 @@ class Folder:
         self.root = os.open(ROOT, DIRECTORY, dir_fd=self.lock)
         if is_new:
             self.fill(tree_file)
+            # other sessions may have what is there now at the same time
+            fcntl.flock(self.lock, fcntl.LOCK_SH)
         check_room(self.root)
 
     def fill(self, tree_file):
@@ -294,7 +297,7 @@ class Kept(Folder):
             state = os.fstat(held)
             if state.st_uid != os.geteuid() or stat.S_IMODE(state.st_mode) & 0o077:
                 raise Bad(f"{self.name} is no folder that this user alone can enter: chmod 0700 {self.name}")
-            fcntl.flock(held, fcntl.LOCK_EX)
+            fcntl.flock(held, fcntl.LOCK_SH)
             if foreign := [name for name in os.listdir(held) if name != ROOT]:
                 raise Bad(f"{self.name} has {foreign[0]!r}, which no session of these servers made there")
         except BaseException:
