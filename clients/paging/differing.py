@@ -123,6 +123,8 @@ class Shown:
     times: Optional[List[float]] = None
     request: Optional[int] = None
     reply: Optional[int] = None
+    # The place of the first record once the server was started again on the same files, or None.
+    again: Optional[int] = None
 
     def packet(self, place):
         return None if place is None or place >= len(self.records) else self.records[place][1]

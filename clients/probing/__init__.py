@@ -9,9 +9,12 @@ features    what `--skip` may name in a plan
 scenes      small scenes that make sense; refusals: requests that some cause refuses
 transfers   large scenes with much data, or with many names or handles; meetings: in which requests meet on one thing;
             pairs: of requests that depend on the one just before; renewals: that look again at what changed
+lasting     what is looked at once the server was started again on the files of a session
 pieces      which packets go in pieces, and when the second piece goes
 servers     starts and ends the server, with packets to and from it, and ends what it leaves running
 sessions    plays a plan against a server, and records it
+together    a session over two connections to the same files
+restarts    starts the server again on the files of a session, and plays the last steps of a plan there
 below       a plan below a directory of its own; removes what sessions made there; sessions with a server whose files
             nobody can see, which look first
 ownfiles    refuses to play where the server has other files than the tree's
@@ -26,6 +29,8 @@ planted     servers with bugs, for clients/test-probe
 faults      servers with one fault each, for clients/test-probe-faults: faulty_writes, faulty_reads, faulty_names,
             faulty_replies, faulty_open, faulty_meetings, faulty_order, faulty_kept, faulty_stores, faulty_handles,
             faulty_served and faulty_times have them, faulty what they are made of
+faulty_lasting  servers whose fault only the next session shows, for clients/test-lasting
+faulty_together  servers whose fault only two clients at once show, for clients/test-together
 misbehaving servers that end, hang and are late, for clients/test-probe-runs
 mutated     mistakes in sessions that are right, for clients/test-profiles
 """

@@ -16,7 +16,7 @@ import time
 from contextlib import suppress
 
 import sftp3
-from probing import limits, program, servers, sessions, verdicts
+from probing import limits, program, restarts, servers, sessions, verdicts
 from probing.plans import Step
 from sftp3 import trees
 from walking import bounds, looking
@@ -291,15 +291,16 @@ def is_open(found):
 class Worker(limits.Worker):
     """Plays sessions below directories of their own, below a place."""
 
-    def __init__(self, folder, server, auditor, timeout, place):
-        super().__init__(folder, server, auditor, timeout)
+    def __init__(self, folder, server, auditor, timeout, again, place):
+        super().__init__(folder, server, auditor, timeout, again)
         self.place, self.seen = place, os.path.join(folder, "seen.transcript")
 
     def play(self, tree, steps, in_flight, seed, stop, timeout=None, cut=None):
         base = Below(self.place.new(), tree)
         try:
             self.make(base.own, stop)
-            session = sessions.play(self.server, "", base.steps(steps), in_flight, timeout or self.timeout, stop, cut)
+            session = restarts.play(self.server, "", base.steps(steps), in_flight, timeout or self.timeout, stop, cut,
+                                    self.again)
         finally:
             left = Clearing(base.own).run(self.server, self.timeout, stop)
             for line in left.split("\n") if left else ():

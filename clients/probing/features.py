@@ -36,11 +36,16 @@ FEATURES = {
     "deep": "paths of 30 names",
     "many-handles": "a hundred handles that are open at a time",
     "read-back": "what the session made, read back and listed at its end",
+    "lasting": "what a session left, looked at once the server was started again on its files",
 }
 
 # What a server has room for, and the tree has not: a difference there says nothing of the server. Plans of the probe
 # leave it out unless `--also` names it.
 BEYOND = {"large", "long-target"}
+
+# What `--also` takes: these, and what a session has besides.
+TOGETHER = "two-clients"
+ALSO = BEYOND | {TOGETHER}
 
 # The most bytes of a name, and fewer than any system takes for a path.
 NAME_LIMIT, PATH_LIMIT = 255, 4096

@@ -113,8 +113,19 @@ class Groups:
         return [one for group in found if not group.leader for one in [group] + group.followers]
 
 
+# What is said of a reply that came once the server had been started again on the files of the session.
+AGAIN = ", once the server was started again"
+
+
 def key_of(difference):
-    """What differences of one group have in common: the request, the causes, what is expected, and what was found."""
+    """What differences of one group have in common: the request, the causes, what is expected, and what was found, and
+    whether the server had been started again by then."""
+    name, causes, expected, found = plain_key(difference)
+    return name, causes, expected, found + AGAIN * difference.is_again
+
+
+def plain_key(difference):
+    """The same, whether or not the server had been started again."""
     verdict = difference.verdict
     if verdict.kind == "Times":
         return difference.name, (), difference.expected, difference.found
@@ -185,7 +196,7 @@ def another(name):
 
 def lacks_owner(difference):
     """Whether what differs are attributes that have no owner."""
-    return "without owner" in key_of(difference)[3]
+    return "without owner" in plain_key(difference)[3]
 
 
 def of_data(expected, found):
@@ -302,7 +313,7 @@ def of_what(group):
         return BYTES
     if group.request in ("READLINK", "REALPATH"):
         return PATH
-    named = re.search(r"with (?:an)?other ([a-z, ]+)$", group.found)
+    named = re.search(r"with (?:an)?other ([a-z, ]+)$", group.found.removesuffix(AGAIN))
     if named:
         return BYTES if "size" in named[1] else named[1]
     if "code 2 " in group.expected + group.found or group.request == "READDIR":

@@ -13,7 +13,7 @@ from contextlib import suppress
 from dataclasses import dataclass, field
 from typing import List
 
-from probing import sessions, verdicts
+from probing import restarts, sessions, verdicts
 from probing.sessions import Session
 from sftp3 import trees
 
@@ -73,8 +73,8 @@ AHEAD = 8
 class Worker:
     """Plays and judges sessions, one at a time, in a folder of its own."""
 
-    def __init__(self, folder, server, auditor, timeout):
-        self.server, self.timeout = server, timeout
+    def __init__(self, folder, server, auditor, timeout, again):
+        self.folder, self.server, self.timeout, self.again = folder, server, timeout, again
         self.auditor = auditor.in_folder(folder)
         # the server's own file of the tree, which it may change, and the file that the audit reads
         self.tree_file, self.kept_tree = (os.path.join(folder, name) for name in ("start.tree", "judged.tree"))
@@ -94,8 +94,15 @@ class Worker:
         """The session of these steps, and what is judged of it. Raises Stopped once `stop` is set, unless there is a
         difference by then."""
         self.write_tree(tree)
-        session = sessions.play(self.server, self.tree_file, steps, in_flight, timeout or self.timeout, stop, cut)
+        with self.server.with_folder(self.folder) as server:
+            session = restarts.play(server, self.tree_file, steps, in_flight, timeout or self.timeout, stop, cut,
+                                    self.again)
         return session, verdicts.judge(self.auditor, self.kept_tree, session, seed, stop)
+
+    def begins_anew(self, session, stop):
+        """Whether the server, once it was started again, had the files of the start: nothing of a session lasts."""
+        records = session.records[:2] + session.records[session.again:]
+        return self.auditor.judge(self.kept_tree, records, stop).accepted
 
 
 class Pool:

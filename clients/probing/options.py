@@ -126,8 +126,17 @@ def jobs(given):
     return 1 if alone else processors()
 
 
+def keeps_files(given):
+    """Whether a server that is started again has the files that the session before left."""
+    if given.look_first is not None or any("{folder}" in word for word in given.command):
+        return True
+    return given.reset is not None and not any("{tree}" in word for word in given.command)
+
+
 def in_flight(given, number):
     """The most requests in flight in the session of a seed, or in this one of those that play a recorded session."""
+    if features.TOGETHER in given.also:
+        return ONE
     if given.in_flight:
         return given.in_flight
     if given.session:
@@ -171,9 +180,12 @@ def add_of_plans(add):
     add("--pieces", metavar="N", type=count, default=PIECES,
         help=f"of how many sessions one has a fourth of its requests sent in pieces ({PIECES}); 0: in none")
     add("--skip", metavar="NAME,...", type=names_among(SKIPPED), default=[], help="what to leave out of the plans")
-    add("--also", metavar="NAME,...", type=names_among(features.BEYOND), default=[],
-        help="what to plan besides: large, long-target, for which a server has room, and the tree may not")
+    add("--also", metavar="NAME,...", type=names_among(features.ALSO), default=[],
+        help="what to plan besides: large, long-target, for which a server has room, and the tree may not; and "
+             "two-clients, which have each session together, one request after the other")
     add("--session", metavar="FILE", help="play the requests of this transcript, not those of seeds")
+    add("--start-again", metavar="N", type=positive,
+        help="start the server again on the same files before the N-th request of --session")
     add("--look-first", metavar="PLACE", type=os.fsencode,
         help="play each session below a directory that it makes below this place, and judge it by the tree that was "
              "seen; behind it the directory is removed")
@@ -242,8 +254,16 @@ def options(about):
     """The command line as it was given. Wrong usage ends the program."""
     found = parser(about)
     given = found.parse_args()
-    if given.look_first is not None and (given.reset or any("{tree}" in word for word in given.command)):
-        found.error("--look-first is for servers that start from files of their own: it excludes --reset and {tree}")
+    words = [word for word in ("{tree}", "{folder}") if any(word in one for one in given.command)]
+    if given.look_first is not None and (given.reset or words):
+        found.error("--look-first is for servers that start from files of their own: it excludes --reset, {tree} and "
+                    "{folder}")
+    if given.start_again and not given.session:
+        found.error("--start-again names a request of --session")
+    option = "--start-again" if given.start_again else "two-clients" if features.TOGETHER in given.also else None
+    if option and not keeps_files(given):
+        found.error(f"{option} needs a server that has the same files when it is started once more: put {{folder}} "
+                    "where it takes a folder, or give --reset or --look-first")
     names = [("--tree", given.tree), ("--session", given.session), ("--report", given.report)]
     if twice := named_twice(names, may_be_one=("--tree", "--session")):
         found.error(f"{twice[0]} and {twice[1]} name one file")

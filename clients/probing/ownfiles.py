@@ -62,7 +62,8 @@ def trouble(server, worker, tree, stop):
     a run that is stopped by then, are left to the first session."""
     worker.write_tree(tree)
     try:
-        session = sessions.play(server, worker.tree_file, looking(), 1, worker.timeout, stop)
+        with server.with_folder(worker.folder) as one:
+            session = sessions.play(one, worker.tree_file, looking(), 1, worker.timeout, stop)
     except (sessions.NotStarted, sessions.Stopped):
         return None
     return difference(shown(session), tree)

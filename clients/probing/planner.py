@@ -393,6 +393,7 @@ def changed(model):
 
 def few_empty(found):
     """Those of these pairs whose number is not 0, and some of the others."""
+    found = list(found)
     full, empty = [one for one in found if one[1]], [one for one in found if not one[1]]
     return full + empty[:MOST_EMPTY]
 

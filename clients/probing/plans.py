@@ -4,6 +4,7 @@ recorded, so that it can be played again against any server; and the bytes of th
 What a server says that it has room for, by `limits@openssh.com`, cuts the steps. The probe asks for it before the
 session that is recorded: the answer changes nothing in the tree, and the plan stays the same.
 """
+import copy
 import random
 import struct
 
@@ -48,6 +49,9 @@ def opener(handle):
 class Step(sftp3.Request):
     """A request of a plan. A handle in it is a `Handle`, an `Unlike`, or bytes. Its tags are what `--skip` may name."""
 
+    # Whether it is asked once the server was started again on the files of the session.
+    again = False
+
     def __init__(self, number, name, fields, cause=None):
         super().__init__(number, name, fields)
         self.tags = {name} | ({cause} if cause else set()) | features.of_request(name, fields)
@@ -73,10 +77,28 @@ def steps_of(transcript):
         fields = list(request.fields)
         if request.handle() in given:
             fields[0] = given[request.handle()].opened()
-        # numbers of their own, since a client may use an id again
-        steps.append(Step(len(steps) + 1, request.name, fields))
+        # numbers of their own, since a client may use an id again; odd ones stay odd, as two clients go by that
+        number = steps[-1].number + 1 if steps else 1
+        steps.append(Step(number + (number - request.number) % 2, request.name, fields))
         asked[request.number] = steps[-1]
     return steps
+
+
+def asked_again(step, again=True):
+    """The step, once the server was started again; or before."""
+    found = copy.copy(step)
+    found.again = again
+    return found
+
+
+def started_again(steps, number):
+    """These steps, with the server started again before the one with this place, from 1."""
+    return [asked_again(step, place >= number) for place, step in enumerate(steps, 1)]
+
+
+def parted(steps):
+    """The steps before the server is started again, and those behind that."""
+    return [step for step in steps if not step.again], [step for step in steps if step.again]
 
 
 def part(start, count):

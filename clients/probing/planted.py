@@ -326,7 +326,12 @@ def classes(module):
 
 
 def run(bug, command):
-    """Runs a server, and passes packets on through a bug until both are done."""
+    """Runs a server, and passes packets on through a bug until both are done. Ends as it did."""
+    os._exit(passed(bug, command))
+
+
+def passed(bug, command):
+    """The same, and gives the server's exit status."""
     server = subprocess.Popen(command, stdin=subprocess.PIPE, stdout=subprocess.PIPE, bufsize=0)
     asked = os.dup(server.stdin.fileno())
     server.stdin.close()
@@ -338,7 +343,7 @@ def run(bug, command):
 
     threading.Thread(target=pass_on, args=(0, asked, requests, bug.begun), daemon=True).start()
     pass_on(server.stdout.fileno(), os.dup(1), bug.replies)
-    os._exit(server.wait())
+    return server.wait()
 
 
 if __name__ == "__main__":

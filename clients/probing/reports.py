@@ -27,6 +27,8 @@ def keep_server(place, difference):
     files.write_text(os.path.join(place, "server.txt"),
                      f"in flight: {session.in_flight}\nseed: {difference.seed}\n"
                      f"in pieces: {'no' if session.cut is None else 'yes'}\n"
+                     f"started again: {started_again(difference)}\n"
+                     f"clients: {'two' if session.is_together else 'one'}\n"
                      f"session: {session.end or 'each request had its reply'}\nended: {session.ending()}\n")
     whole = os.path.join(place, "whole.transcript")
     if session.records != difference.records:
@@ -34,6 +36,13 @@ def keep_server(place, difference):
     else:
         with ways.location_of(whole) as left, suppress(FileNotFoundError):
             os.unlink(left.name, dir_fd=left.folder)
+
+
+def started_again(difference):
+    """Before which request of the session that was judged the server was started again, counted from 1; or `no`."""
+    if difference.again is None:
+        return "no"
+    return f"before request {sum(side == sftp3.CLIENT for side, _ in difference.records[:difference.again])}"
 
 
 def text_of(judge, name):
@@ -229,8 +238,10 @@ def session_lines(shown, texts):
     of all that is left out that it is."""
     marked = sorted({place for place in (shown.request, shown.reply) if place is not None and place < len(texts)})
     parts = exchanges.parts(exchanges.Session(shown.records), marked, WHOLE, AROUND)
-    lines = []
+    lines, again = [], shown.again
     for part in parts:
+        if again is not None and first_of(part) >= again:
+            lines, again = lines + [f"  {STARTED_AGAIN}"], None
         if isinstance(part, exchanges.Fold):
             asked = sum(part.requests.values())
             lines.append(f"  ... {counted(asked, 'request')} and {counted(part.replies, 'reply', 'replies')} are left "
@@ -238,6 +249,15 @@ def session_lines(shown, texts):
         elif part >= 2:
             lines.append(("> " if part in marked else "  ") + cut_line(record_text(shown, texts, part)))
     return lines
+
+
+# What stands in a session where the server was started again.
+STARTED_AGAIN = "--- the server was started again on the same files"
+
+
+def first_of(part):
+    """The place of the first record of a part."""
+    return part.first if isinstance(part, exchanges.Fold) else part
 
 
 def record_text(shown, texts, place):
@@ -272,7 +292,8 @@ def sessions_of(group):
         found.append(judged(group.shortest.difference, "The shortest session that shows it"))
     first = group.first
     title = f"The session in which it came first, of seed {first.seed}"
-    found.append(differing.Shown(title, first.session.records, first.session.times, first.request, first.reply))
+    found.append(differing.Shown(title + where_again(first.session.again), first.session.records, first.session.times,
+                                 first.request, first.reply, first.session.again))
     return found
 
 
@@ -281,7 +302,12 @@ def judged(difference, title):
     records, session = difference.records, difference.session
     times = session.times if len(records) == len(session.records) else None
     concerned = (None, None) if difference.verdict.record is None else verdicts.concerned(records, difference.verdict)
-    return differing.Shown(title, records, times, *concerned)
+    return differing.Shown(title + where_again(difference.again), records, times, *concerned, difference.again)
+
+
+def where_again(place):
+    """What the title of a session says of the place where the server was started again."""
+    return "" if place is None else f"; the server was started again before record {place + 1}"
 
 
 def shown_group(number, group, notes):

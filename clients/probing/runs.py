@@ -6,8 +6,8 @@ from dataclasses import dataclass, field
 from typing import List, Optional
 
 from paging import document
-from probing import (below, features, groups, hints, limits, options, ownfiles, planner, plans, program, reports,
-                     sessions, shrinking, starting, verdicts)
+from probing import (below, features, groups, hints, lasting, limits, options, ownfiles, planner, plans, program,
+                     reports, restarts, sessions, shrinking, starting, verdicts)
 from probing.sessions import NotStarted
 from sftp3 import trees
 from walking import bounds
@@ -30,6 +30,10 @@ class Outcome:
     version: Optional[List[str]] = None
 
 
+# Why nothing of a session lasts, where that may be how the server is meant to be.
+ANEW = "the server starts from the same files each time"
+
+
 class Plan:
     """A plan, which is played again without a request of which nobody knows what it changed."""
 
@@ -38,6 +42,8 @@ class Plan:
         self.in_flight, self.cut = options.in_flight(given, seed), options.cut(given, seed)
         self.outcome = Outcome(limits.Played(seed, self.in_flight, 0, 0, 0))
         self.seen, self.endings = set(), []
+        # differences of what was planned for a second start that came without one, and the steps of their session
+        self.taken_along = [], steps
 
     def play(self, worker):
         """What comes of it; what came by then, once it is stopped. Raises Stopped if that is nothing."""
@@ -56,6 +62,7 @@ class Plan:
                 self.take([limits.not_started(error, self.in_flight, self.seed)])
                 break
             self.take(judged.differences)
+            self.take(*self.taken_along)
             self.count(number, session, judged)
             if judged.last is None or session.silent() or self.ends_alike(session):
                 break
@@ -67,6 +74,9 @@ class Plan:
         """Where the server ended with several requests unanswered, they are asked one by one, to see which it is."""
         session, judged = worker.play(self.tree, self.steps, self.in_flight, self.seed, self.stop, cut=self.cut)
         self.outcome.version = document.version(session.records)
+        self.taken_along = [], self.steps
+        if any(one.is_again for one in judged.differences):
+            self.tell_apart(worker, session, judged)
         if session.ended and session.unanswered > 1:
             try:
                 alone = worker.play(self.tree, self.steps, options.ONE, self.seed, self.stop, cut=self.cut)
@@ -77,11 +87,30 @@ class Plan:
                 return alone
         return session, judged
 
-    def take(self, differences):
+    def tell_apart(self, worker, session, judged):
+        """What comes without a second start, too, says nothing of what lasts: it is taken as it comes then. Where time
+        is over before that is known, what came behind the second start is not taken."""
+        def key_of(one):
+            return one.number, groups.plain_key(one)
+        found = {key_of(one): one for one in judged.differences if one.is_again}
+        judged.differences = [one for one in judged.differences if not one.is_again]
+        if worker.again.may_begin_anew and worker.begins_anew(session, self.stop):
+            worker.again.fail(ANEW, for_good=True)
+            return
+        steps = [plans.asked_again(step, False) for step in self.steps]
+        try:
+            _, without = worker.play(self.tree, steps, self.in_flight, self.seed, self.stop, cut=self.cut)
+        except (sessions.Stopped, NotStarted):
+            return
+        there = {key_of(one): one for one in without.differences if key_of(one) in found}
+        judged.differences += [one for key, one in found.items() if key not in there]
+        self.taken_along = list(there.values()), steps
+
+    def take(self, differences, steps=None):
         for one in differences:
             key = one.number, groups.key_of(one)
             if key not in self.seen:
-                self.outcome.differences.append((self.steps, one))
+                self.outcome.differences.append((steps or self.steps, one))
                 self.seen.add(key)
 
     def count(self, number, session, judged):
@@ -126,6 +155,12 @@ class Run:
         server = sessions.Server(given.command, given.reset, left, given.symlink == "draft", "BadHandle" in given.skip)
         # a record has the order of its server, a plan that of OpenSSH
         self.recorded = self.recorded and list(map(server.in_order, self.recorded))
+        if given.start_again:
+            self.recorded = plans.started_again(self.recorded, given.start_again)
+        # what is named by {folder} is there for what lasts
+        self.again = restarts.Restarts(options.keeps_files(given) and "lasting" not in given.skip, given.timeout,
+                                       given.reset is not None and not server.has("{folder}"),
+                                       features.TOGETHER in given.also)
         is_known = server.takes_tree() or given.look_first is not None
         if not is_known and not given.tree:
             raise options.Wrong(ownfiles.NO_TREE)
@@ -141,9 +176,9 @@ class Run:
         """What plays the sessions, one for each that is played at a time."""
         folders = [self.place(folder, number) for number in range(options.jobs(self.given))]
         if self.given.look_first is None:
-            return [limits.Worker(one, server, auditor, self.given.timeout) for one in folders]
+            return [limits.Worker(one, server, auditor, self.given.timeout, self.again) for one in folders]
         place = below.Place(server, self.given.look_first, self.given.timeout, self.halt)
-        return [below.Worker(one, server, auditor, self.given.timeout, place) for one in folders]
+        return [below.Worker(one, server, auditor, self.given.timeout, self.again, place) for one in folders]
 
     def place(self, folder, number):
         """The folder of a worker."""
@@ -179,7 +214,10 @@ class Run:
         skip = features.BEYOND.difference(self.given.also).union(self.given.skip)
 
         def steps_of(seed):
-            return self.recorded if self.given.session else planner.plan(seed, self.tree, self.given.requests, skip)
+            if self.given.session:
+                return self.recorded
+            steps = planner.plan(seed, self.tree, self.given.requests, skip)
+            return lasting.lasting(steps, self.tree, skip) if self.again.is_wanted else steps
         self.tally.planned = len(numbers)
 
         def task_of(number):
@@ -276,7 +314,7 @@ class Run:
         if found or self.tally.left or not self.vain():
             if found:
                 program.say("")
-            program.say(reports.summary(self.tally, found))
+            program.say(reports.summary(self.tally, found) + self.again.told())
         if wrong:
             raise wrong[0]
 

@@ -17,12 +17,12 @@ import subprocess
 import tempfile
 import time
 from collections import deque
-from contextlib import suppress
+from contextlib import contextmanager, suppress
 
 import sftp3
 from paging import packets
 from probing import pieces
-from recording import greetings, temporary
+from recording import greetings, removing, temporary
 from recording.pauses import AT_ONCE, Clock
 
 # Seconds for a server to end after its input did, and after it left a request unanswered.
@@ -49,13 +49,14 @@ class ResetFailed(NotStarted):
 
 
 class Server:
-    """How to start the server. `{tree}` in a word of its command or of `reset` stands for the name of the tree file.
+    """How to start the server. `{tree}` in a word of its command or of `reset` stands for the name of the tree file,
+    and `{folder}` for that of a folder, which is empty when a session begins.
     With `leftovers`, what it leaves running is ended. With `link_first` it takes the paths of SYMLINK in the order of
     the draft; plans have them in OpenSSH's. With `only_given` nothing is asked through handles that it never gave."""
 
     def __init__(self, command, reset=None, leftovers=None, link_first=False, only_given=False):
         self.command, self.reset, self.leftovers = command, reset, leftovers
-        self.link_first, self.only_given = link_first, only_given
+        self.link_first, self.only_given, self.folder = link_first, only_given, ""
 
     def in_order(self, step):
         """The step as it is sent to this server."""
@@ -66,17 +67,47 @@ class Server:
         return found
 
     def takes_tree(self):
-        return any("{tree}" in word for word in self.command + [self.reset or ""])
+        return self.has("{tree}", with_reset=True)
+
+    def has(self, word, with_reset=False):
+        """Whether its command has `{tree}` or `{folder}`, or that of --reset."""
+        return any(word in one for one in self.command + [self.reset or ""] * with_reset)
+
+    @contextmanager
+    def with_folder(self, above):
+        """The server with a folder for a session, below this one, if its command has a word for it."""
+        if not self.has("{folder}", with_reset=True):
+            yield self
+            return
+        found = copy.copy(self)
+        found.folder = tempfile.mkdtemp(prefix="files-", dir=above)
+        try:
+            yield found
+        finally:
+            with suppress(FileNotFoundError):
+                removing.remove_directory(found.folder)
+
+    def again(self):
+        """The server, to be started on the files that it has."""
+        found = copy.copy(self)
+        found.reset = None
+        return found
 
     def start(self, tree_file, seconds=None, stop=None):
         """Runs the command of --reset, for at most so many seconds, and starts the server."""
         environment = dict(os.environ, SFTPV3_TREE=tree_file)
         if self.reset:
-            run_reset(self.reset.replace("{tree}", shlex.quote(tree_file)), environment, seconds, stop)
-        words = [word.replace("{tree}", tree_file) for word in self.command]
+            run_reset(self.named(self.reset, shlex.quote(tree_file), shlex.quote(self.folder)), environment, seconds,
+                      stop)
+        words = [self.named(word, tree_file, self.folder) for word in self.command]
         mark = self.leftovers.mark() if self.leftovers else ""
         environment.update({VARIABLE: mark} if mark else {})
         return Running(started(words, environment), self.leftovers, mark)
+
+    @staticmethod
+    def named(word, tree_file, folder):
+        """A word with the names in place of what stands for them."""
+        return word.replace("{tree}", tree_file).replace("{folder}", folder)
 
 
 # Why the system starts no process at all now, whatever it is: too many files, processes or memory are taken.

@@ -2,6 +2,7 @@
 import signal
 import time
 from collections import deque
+from contextlib import suppress
 from dataclasses import dataclass, field
 from typing import List, Optional, Tuple
 
@@ -56,6 +57,10 @@ class Session:
     start: Optional[bytes] = None
     # Where requests went in pieces, the number that says which; else None.
     cut: Optional[int] = None
+    # Whether two clients had it together, each on a connection of its own.
+    is_together: bool = False
+    # The place of the first record once the server was started again on the same files, or None if it was not.
+    again: Optional[int] = None
 
     def transcript(self):
         return sftp3.put_records(self.records)
@@ -77,6 +82,10 @@ class Session:
         """Whether a signal that says that a program is wrong ended the server after all was answered."""
         return self.end is None and is_crash(self.status)
 
+    def is_over(self):
+        """Whether each request has its reply, and the server ended then by itself, without a crash."""
+        return self.end is None and self.status is not None and not self.crashed()
+
     def asked(self):
         """How many requests were asked."""
         return sum(side == b"C" for side, _ in self.records) - 1
@@ -94,14 +103,18 @@ class Session:
 class Player:
     """Sends the steps, with up to `in_flight` of them unanswered, and records all that passes. Extensions that VERSION
     does not announce are left out, and with `only_given` those through handles that were never given. `stop` is an
-    event that ends it."""
+    event that ends it. Handles that are `taken` by other things are recorded by names of their own."""
 
-    def __init__(self, running, steps, in_flight, timeout, stop, cut=None, only_given=False):
+    # The names of handles in the record that are taken.
+    NAME = b"again %d"
+
+    def __init__(self, running, steps, in_flight, timeout, stop, cut=None, only_given=False, taken=frozenset()):
         self.running, self.in_flight, self.timeout, self.stop = running, in_flight, timeout, stop
         self.only_given = only_given
         self.waiting = deque(steps)
         self.session = Session(in_flight, cut=cut)
         self.unanswered, self.handles = {}, {}
+        self.taken, self.named = taken, {}
         self.asked = self.unwanted = 0
         self.most = REPLIES + sum(min(it.fields[2], servers.LARGEST) for it in self.waiting if it.name == "READ")
         self.left = self.most
@@ -113,8 +126,9 @@ class Player:
         self.session.records.append((side, packet))
         self.session.times.append(time.monotonic() - self.running.started)
 
-    def give(self, packet):
-        self.record(b"C", packet)
+    def give(self, packet, recorded=None):
+        """Sends a packet, and records it, or what stands for it."""
+        self.record(b"C", recorded or packet)
         self.streams.give(packet)
 
     def opening(self):
@@ -156,6 +170,10 @@ class Player:
 
     def play(self):
         self.opening()
+        self.run()
+
+    def run(self):
+        """Asks all that waits, until each request has its reply."""
         while not self.session.end and (self.waiting or self.unanswered):
             self.ask()
             self.exchange()
@@ -179,7 +197,8 @@ class Player:
                 self.heard = self.streams.clock.now()
             self.asked += 1
             self.unanswered[step.number] = self.asked
-            self.give(sftp3.request(step.number, step.name, *given))
+            named = [self.named.get(given[0], given[0])] + given[1:] if opener is not None else given
+            self.give(*(sftp3.request(step.number, step.name, *fields) for fields in (given, named)))
 
     def far_behind(self):
         return bool(self.unanswered) and self.asked - next(iter(self.unanswered.values())) >= WINDOW
@@ -213,7 +232,7 @@ class Player:
         if self.left < 0:
             self.session.end = self.session.end or f"the replies have more than {self.most:,} bytes"
             return
-        self.record(b"S", packet)
+        self.record(b"S", self.recorded(packet))
         try:
             reply = sftp3.Reply(packet)
         except sftp3.Malformed:
@@ -231,11 +250,24 @@ class Player:
         elif reply.handle is not None:
             self.handles[reply.number] = reply.handle
 
-    def part(self):
-        """Lets the server end, and records what it still writes."""
+    def is_taken(self, handle):
+        """Whether the record has this handle for something else."""
+        return handle in self.taken
+
+    def recorded(self, packet):
+        """A reply as it is recorded: a handle that is taken has another name."""
+        with suppress(sftp3.Malformed):
+            handle = sftp3.Reply(packet).handle
+            if self.is_taken(handle):
+                name = self.named.setdefault(handle, self.NAME % len(self.named))
+                return sftp3.packet(sftp3.HANDLE, packet[5:9] + sftp3.string(name))
+        return packet
+
+    def part(self, seconds=servers.PARTING):
+        """Lets the server end, for at most so many seconds, and records what it still writes."""
         session = self.session
         self.streams.selector.close()
-        session.status = self.running.part(servers.SILENT_PARTING if session.silent() else servers.PARTING,
+        session.status = self.running.part(servers.SILENT_PARTING if session.silent() else seconds,
                                            self.streams.receive)
         self.take_all()
         if len(self.streams.arrived):
@@ -247,10 +279,12 @@ class Player:
                 "the server closed its output"
 
 
-def play(server, tree_file, steps, in_flight, timeout=TIMEOUT, stop=None, cut=None):
-    """The session of these steps. `cut` is a number that says which of them go in pieces, or None."""
+def play(server, tree_file, steps, in_flight, timeout=TIMEOUT, stop=None, cut=None, parting=servers.PARTING,
+         taken=frozenset()):
+    """The session of these steps. `cut` is a number that says which of them go in pieces, or None. The server has so
+    many seconds to end. Handles that are `taken` get other names in what is recorded."""
     running = server.start(tree_file, timeout * OPENING, stop)
-    player = Player(running, map(server.in_order, steps), in_flight, timeout, stop, cut, server.only_given)
+    player = Player(running, map(server.in_order, steps), in_flight, timeout, stop, cut, server.only_given, taken)
     why = None
     try:
         player.play()
@@ -260,7 +294,7 @@ def play(server, tree_file, steps, in_flight, timeout=TIMEOUT, stop=None, cut=No
         running.stop()
         raise
     finally:
-        player.part()
+        player.part(parting)
     if why:
         raise NotStarted(player.session.told(why), player.session)
     return player.session

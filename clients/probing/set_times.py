@@ -147,6 +147,13 @@ class Session:
             self.reads += 1
         return found
 
+    def restart(self):
+        """The server is started again: no handle is left, and it may have read what is there."""
+        self.opened.clear()
+        if self.followed:
+            self.followed.access = None
+            self.followed.handles.clear()
+
     def open(self, request: sftp3.Request, handle: bytes, is_steady: bool):
         """Notes what a handle was opened by, if nothing was moved meanwhile."""
         self.forget(handle)
@@ -206,12 +213,15 @@ def is_no_link(given: dict) -> bool:
     return given.get("permissions", LINK) & KIND != LINK
 
 
-def findings(records) -> Iterator[Finding]:
-    """The replies of a session with other times than were set: of each request, the first of each kind."""
+def findings(records, again: Optional[int] = None) -> Iterator[Finding]:
+    """The replies of a session with other times than were set: of each request, the first of each kind. At the place
+    `again` the server was started again."""
     session, seen = Session(), set()
     for place, (side, packet) in enumerate(records):
         if place < 2:
             continue
+        if place == again:
+            session.restart()
         with suppress(sftp3.Malformed):
             if side == sftp3.CLIENT:
                 session.ask(sftp3.decode(packet), place)

@@ -82,7 +82,7 @@ class Shrinker:
         the server is slow; else all."""
         wanted, self.in_flight = self.in_flight, 1
         for steps in of_steps(self.group.steps, self.group.first.number):
-            if self.show(steps, tree):
+            if self.show(self.with_closes(steps), tree):
                 break
         self.in_flight = wanted
         return self.best.steps if self.best else self.group.steps
@@ -117,7 +117,7 @@ class Shrinker:
     def guessed(self, shown):
         """What a guess at the steps shows, or None."""
         for steps in of_steps(shown.steps, shown.difference.number):
-            found = self.show(steps, shown.tree)
+            found = self.show(self.with_closes(steps), shown.tree)
             if found:
                 return found
         return None
@@ -159,9 +159,19 @@ class Shrinker:
             keep += max(1, (len(shown.steps) - keep) // 2)
         return shown
 
+    def with_closes(self, steps):
+        """The steps, and if the server is started again, each CLOSE of the plan before that for what they open: what is
+        lost of a file that was closed is another thing than what is lost of one that was not."""
+        if not self.group.first.is_again:
+            return steps
+        numbers = {step.number for step in steps}
+        return [step for step in self.group.steps if step.number in numbers
+                or step.name == "CLOSE" and not step.again and plans.opener(step.handle()) in numbers]
+
     def without_steps(self, shown):
         def smaller(steps):
-            return self.show(steps, shown.tree)
+            steps = self.with_closes(steps)
+            return self.show(steps, shown.tree) if len(steps) < len(self.best.steps) else None
         return reduce(shown, shown.steps, smaller, lambda found: found.steps)
 
     def without_entries(self, shown):
@@ -251,7 +261,7 @@ def of_names(steps, last):
     for number in handles & set(opened):
         names |= names_of(opened[number])
     kept = [step for step in before if step.number in handles or opener(step) in handles or names & names_of(step)]
-    wanted = {opener(step) for step in kept} | {step.number for step in kept}
+    wanted = {opener(step) for step in kept} - {None} | {step.number for step in kept}
     return [step for step in before if step.number in wanted or opener(step) in wanted] + [last]
 
 

@@ -1,4 +1,5 @@
 """Asks `sftpv3 audit` for its verdict on a session, and goes on after a difference."""
+import bisect
 import os
 import re
 import resource
@@ -158,6 +159,14 @@ class Difference:
     # The places of the request and of the reply in `session.records`, from 0, or None.
     request: Optional[int]
     reply: Optional[int]
+    # The place in `records` of the first one once the server was started again, or None.
+    again: Optional[int] = None
+
+    @property
+    def is_again(self):
+        """Whether the server had been started again on the files of the session."""
+        place = self.request if self.request is not None else self.reply
+        return self.session.again is not None and place is not None and place >= self.session.again
 
     @property
     def in_flight(self):
@@ -215,7 +224,8 @@ def judge(auditor, tree_file, session, seed=0, stop=None):
         judged.differences.append(Difference(
             seed, asked and asked.number, asked.name if asked else "none", verdict, records, session,
             request if request is None else places[request],
-            reply if reply is None or reply >= len(places) else places[reply]))
+            reply if reply is None or reply >= len(places) else places[reply],
+            session.again and bisect.bisect_left(places, session.again)))
         gone = without(records, verdict, request, reply, judged)
         if gone and groups.lacks_owner(judged.differences[-1]):
             gone = ownerless(records, gone, judged)
@@ -229,18 +239,19 @@ def judge(auditor, tree_file, session, seed=0, stop=None):
 
 def of_times(session, seed):
     """The differences of replies that show other times than the session has set, which the audit leaves free."""
-    for one in set_times.findings(session.records):
+    for one in set_times.findings(session.records, session.again):
         verdict = Verdict(False, f"{one.asked.name}: {one.found}", one.reply + 1, "Times",
                           {"expected": one.expected, "found": one.found})
         yield Difference(seed, one.asked.number, one.asked.name, verdict, session.records, session,
-                         one.request, one.reply)
+                         one.request, one.reply, session.again)
 
 
 def of_crash(session, seed):
     """The difference of a server that crashed when its input had ended, and each request had its reply."""
     found = f"the server ended {session.ending()}"
     verdict = Verdict(False, found, None, "Ended", {"expected": "an end without a crash", "found": found})
-    return Difference(seed, None, "the end of the input", verdict, session.records, session, None, None)
+    return Difference(seed, None, "the end of the input", verdict, session.records, session, None, None,
+                      session.again)
 
 
 def concerned(records, verdict):

@@ -20,6 +20,7 @@ from typing import NamedTuple
 import mounts
 from probing import program
 from recording import mounted, temporary
+from recording.removing import DIRECTORY, remove_directory
 
 PREFIX, ROOT = "sftpv3-root-", "root"
 SET_ID = stat.S_ISUID | stat.S_ISGID
@@ -33,7 +34,6 @@ LEFT = 60
 # How many bytes are free on the disk at least when a session begins: more than any plan of the probe writes.
 ROOM = 1 << 26
 
-DIRECTORY = os.O_RDONLY | os.O_DIRECTORY | os.O_NOFOLLOW | os.O_CLOEXEC
 NEW_FILE = os.O_WRONLY | os.O_CREAT | os.O_EXCL | os.O_NOFOLLOW
 
 
@@ -163,54 +163,6 @@ def put_all(builder, members):
     return directories
 
 
-def remove_directory(name, above=None):
-    """Removes the directory of this name, below that of a descriptor, with all that it has, however deep it is, through
-    descriptors and without following a link. Raises OSError if something of it stays, or if it is a link. Nothing may
-    be mounted there.
-
-    A server makes directories within each other as deep as it likes: more than a process may have open, and than a
-    function may call itself. So what stands deep is moved up first. Two descriptors are open at a time."""
-    top = os.open(name, DIRECTORY, dir_fd=above)
-    try:
-        empty(top)
-    finally:
-        os.close(top)
-    os.rmdir(name, dir_fd=above)
-
-
-def empty(top):
-    """Removes all that the directory of a descriptor has."""
-    while directories := remove_files(top):
-        move_all_up(top, directories)
-
-
-def move_all_up(top, names):
-    """Removes directories of another one, into which what they have of directories goes."""
-    for name in names:
-        move_up(top, name)
-        os.rmdir(name, dir_fd=top)
-
-
-def remove_files(directory):
-    """Removes what is no directory, and gives the names of those that are."""
-    with os.scandir(directory) as entries:
-        found = [(entry.name, entry.is_dir(follow_symlinks=False)) for entry in entries]
-    for name, is_directory in found:
-        if not is_directory:
-            os.unlink(name, dir_fd=directory)
-    return [name for name, is_directory in found if is_directory]
-
-
-def move_up(top, name):
-    """Empties a directory of another one: what it has of directories goes into that one, under names of their own."""
-    directory = os.open(name, DIRECTORY, dir_fd=top)
-    try:
-        for below in remove_files(directory):
-            os.rename(below, os.urandom(16).hex(), src_dir_fd=directory, dst_dir_fd=top)
-    finally:
-        os.close(directory)
-
-
 def remove_left(room):
     """Removes what killed runs of this user left in the folder of a descriptor: folders that no run holds locked, and
     that have nothing but a root. What cannot be removed stays, and stops nothing; nothing is asked of what another user
@@ -259,28 +211,43 @@ class Folder:
     def __init__(self, tree_file):
         # what was opened before has no mounts of this process
         self.is_apart = mounts.own_namespace()
-        self.place = temporary.place(PREFIX)
         self.lock = self.root = -1
         self.has_mount = False
         try:
-            remove_left(self.place.folder)
-            os.mkdir(self.place.name, 0o700, dir_fd=self.place.folder)
+            self.lock = self.locked()
             self.make(tree_file)
         except BaseException:
             self.remove()
             raise
 
+    def locked(self):
+        """Makes the folder. Gives a descriptor of it, which holds it locked."""
+        self.place = temporary.place(PREFIX)
+        remove_left(self.place.folder)
+        os.mkdir(self.place.name, 0o700, dir_fd=self.place.folder)
+        held = self.place.open(DIRECTORY)
+        fcntl.flock(held, fcntl.LOCK_EX)
+        return held
+
     def make(self, tree_file):
-        self.lock = self.place.open(DIRECTORY)
-        fcntl.flock(self.lock, fcntl.LOCK_EX)
-        os.mkdir(ROOT, 0o755, dir_fd=self.lock)
+        """Makes what the tree has, unless an earlier session did."""
+        is_new = ROOT not in os.listdir(self.lock)
+        if is_new:
+            fcntl.flock(self.lock, fcntl.LOCK_EX)
+            os.mkdir(ROOT, 0o755, dir_fd=self.lock)
         if self.is_apart:
             mounts.without_set_id(self.mounted())
             self.has_mount = True
         self.root = os.open(ROOT, DIRECTORY, dir_fd=self.lock)
+        if is_new:
+            self.fill(tree_file)
+            # other sessions may have what is there now at the same time
+            fcntl.flock(self.lock, fcntl.LOCK_SH)
+        check_room(self.root)
+
+    def fill(self, tree_file):
         builder = Builder(self.root, self.has_mount)
         fill(builder, tree_file)
-        check_room(self.root)
         if builder.left_out:
             tell(f"set-id bits left out: {builder.left_out} (this system gives no mounts of one's own)")
         if builder.lowered:
@@ -296,18 +263,47 @@ class Folder:
         if self.has_mount:
             mounts.unmount(self.mounted())
         if self.lock >= 0:
-            self.remove_folder()
+            self.leave()
             os.close(self.lock)
-        self.place.close()
 
-    def remove_folder(self):
+    def leave(self):
+        """Removes the folder."""
         try:
             remove_whole(self.lock, self.place.name, self.place.folder)
         except OSError as error:
             tell(f"{self.place.path} stays: {error.strerror}")
+        self.place.close()
 
     def __enter__(self):
         return self
 
     def __exit__(self, *_):
         self.remove()
+
+
+class Kept(Folder):
+    """The folder of this name, which is the user's: made from the tree if it is empty, used as it is otherwise, and
+    never removed."""
+
+    def __init__(self, tree_file, name):
+        self.name = name
+        super().__init__(tree_file)
+
+    def locked(self):
+        """Gives a descriptor of the folder, which holds it locked. Raises Bad if it is not this user's alone, or if it
+        has what no earlier session made."""
+        held = os.open(self.name, DIRECTORY)
+        try:
+            state = os.fstat(held)
+            if state.st_uid != os.geteuid() or stat.S_IMODE(state.st_mode) & 0o077:
+                raise Bad(f"{self.name} is no folder that this user alone can enter: chmod 0700 {self.name}")
+            fcntl.flock(held, fcntl.LOCK_SH)
+            if foreign := [name for name in os.listdir(held) if name != ROOT]:
+                raise Bad(f"{self.name} has {foreign[0]!r}, which no session of these servers made there")
+        except BaseException:
+            os.close(held)
+            raise
+        return held
+
+    def leave(self):
+        """The folder stays."""

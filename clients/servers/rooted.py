@@ -1,9 +1,9 @@
 """Starts a server whose root is a folder that has what a tree file says, without SSH.
 
-The folder is made for one session and removed behind it (folders.py). The server's program is not part of the tree, so
-it stands in the folder, with its libraries, a line of passwd and /dev/null, only until the server has answered INIT;
-what the client sends after that is passed on once they are gone. Changing the root, and the owners of files, needs
-root.
+The folder is made for one session and removed behind it, unless `--folder` names one that stays (folders.py). The
+server's program is not part of the tree, so it stands in the folder, with its libraries, a line of passwd and
+/dev/null, only until the server has answered INIT; what the client sends after that is passed on once they are gone.
+Changing the root, and the owners of files, needs root.
 """
 import contextlib
 import os
@@ -38,6 +38,11 @@ BARE = {"LC_ALL": "C", "PATH": "/usr/bin:/bin"}
 # The most bytes that all libraries of a program may have.
 LARGEST = 1 << 30
 
+# The folder that `--folder` names, if it is given; and what the help says of it.
+kept = []
+OF_FOLDER = """With --folder, the server's files are in this folder, and stay there: they are made from the tree if it
+is empty, and else are those that the last session left. Nobody but this user may enter it."""
+
 # Where the program stands for a moment.
 ASIDE = ".sftpv3-start"
 
@@ -48,11 +53,15 @@ def fail(text, status=3):
 
 
 def read_words(about, least=1):
-    """Ends the script if its words ask for help, which its text `about` has, or are fewer than it needs."""
+    """Takes `--folder NAME` out of the script's words. Ends the script if they ask for help, which its text `about`
+    has, or are fewer than it needs."""
     what, usage, more = (it.strip() for it in about.split("\n\n", 2))
     if sys.argv[1:2] in (["-h"], ["--help"]):
-        print_or_end(f"usage: {usage}\n\n{what}\n\n{more}\n", os.path.basename(sys.argv[0]))
+        print_or_end(f"usage: {usage}\n\n{what}\n\n{more}\n\n{OF_FOLDER}\n", os.path.basename(sys.argv[0]))
         sys.exit(0)
+    if sys.argv[1:2] == ["--folder"]:
+        kept.extend(sys.argv[2:3])
+        del sys.argv[1:3]
     if len(sys.argv) <= least:
         fail(f"usage: {usage}", 2)
 
@@ -64,7 +73,7 @@ def folder_of(arguments, package, program):
     if not os.path.exists(program):
         fail(f"{program} is not there: apt-get install {package}")
     try:
-        return folders.Folder(arguments[1])
+        return folders.Kept(arguments[1], kept[0]) if kept else folders.Folder(arguments[1])
     except (temporary.Unfit, NotBuilt) as error:
         return fail(error)
     except (OSError, folders.Bad) as error:

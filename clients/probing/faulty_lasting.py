@@ -1,0 +1,352 @@
+"""Servers whose fault only the next session on the same files shows, for clients/test-lasting.
+
+    python3 clients/probing/faulty_lasting.py FAULT TREE FOLDER
+
+serves one session by `sftpv3 serve`, which saves the tree in the folder: a first one on the tree file, and all others
+on what the one before has left. When the first session is over, and its client gone, a fault changes something in what
+was saved. No reply of that session is other than right.
+"""
+import os
+import posixpath
+import sys
+import unicodedata
+
+sys.path.insert(0, os.path.dirname(os.path.dirname(os.path.realpath(__file__))))
+
+import sftp3  # noqa: E402 (the folder above is not searched before)
+from probing import planted  # noqa: E402
+from probing.program import program  # noqa: E402
+from sftp3 import trees  # noqa: E402
+from sftp3.trees import DIRECTORY, FILE, FURTHER, LINK, Entry  # noqa: E402
+
+# The bytes of a block of a disk, and how many names the fault of listings keeps.
+BLOCK, NAMES = 4096, 1000
+
+
+def clean(path):
+    return posixpath.normpath(b"/" + path.lstrip(b"/"))
+
+
+class sound(planted.Bug):
+    """Right: what a session leaves is there in the next."""
+
+    # the options of `serve`
+    OPTIONS: tuple = ()
+
+    def __init__(self):
+        super().__init__()
+        # the requests by their ids; what is open; renames that were done, and sizes that were set; how long files were
+        self.asked, self.opened, self.renamed, self.sizes, self.lengths = {}, {}, [], {}, {}
+        self.replaced = set()
+        # the entries at the start and at the end of the session, by their paths
+        self.before, self.after = {}, {}
+
+    def requests(self, packets):
+        for packet in packets:
+            asked = sftp3.decode(packet)
+            self.asked[asked.number] = asked
+            if asked.name == "WRITE" and asked.handle() in self.opened:
+                path = self.opened[asked.handle()]
+                end = asked.fields[1] + len(asked.fields[2])
+                self.lengths[path] = max(self.lengths.get(path, 0), end)
+                self.sizes.pop(path, None)
+        return packets
+
+    def reply(self, packet):
+        reply = sftp3.Reply(packet)
+        asked = self.asked.pop(reply.number)
+        if reply.handle is not None:
+            self.opened[reply.handle] = clean(asked.fields[0]) if asked.name == "OPEN" else None
+        elif reply.code == sftp3.OK:
+            self.note(asked)
+        return packet
+
+    def note(self, asked):
+        """Notes what was done."""
+        if asked.name == "CLOSE":
+            self.opened.pop(asked.handle(), None)
+        elif asked.name in ("RENAME", "POSIX-RENAME"):
+            self.renamed.append(tuple(map(clean, asked.fields)))
+            self.replaced |= {self.renamed[-1][1]} if asked.name == "POSIX-RENAME" else set()
+        elif asked.name in ("SETSTAT", "FSETSTAT") and "size" in asked.fields[1]:
+            path = self.opened.get(asked.handle()) if asked.handle() is not None else clean(asked.fields[0])
+            self.sizes[path] = asked.fields[1]["size"]
+
+    def lost(self, before, after):
+        """The tree that the next session finds, in place of this one."""
+        self.before = {entry.path: entry for entry in before.entries}
+        self.after = {entry.path: entry for entry in after.entries}
+        self.lose()
+        return after.with_entries(list(self.after.values()))
+
+    def lose(self):
+        """Changes what is there at the end."""
+
+    def files(self):
+        """The files, those with names that the session made last."""
+        return [entry for entry in self.after.values() if entry.kind == FILE]
+
+    def fresh(self, kind):
+        """What the session made of this kind, by its path."""
+        return [entry for path, entry in self.after.items() if entry.kind == kind and path not in self.before]
+
+    def is_written(self, entry):
+        old = self.before.get(entry.path)
+        return old is None or old.kind != FILE or old.content != entry.content
+
+    def further(self):
+        """The first names of files with several names, and their further ones."""
+        found = [entry for entry in self.after.values() if entry.kind == FURTHER]
+        return {entry.content for entry in found} | {entry.path for entry in found}
+
+    def drop(self, entry):
+        if entry.path not in self.further():
+            del self.after[entry.path]
+
+    def is_free(self, path):
+        """Whether something can be put at a path."""
+        parent = posixpath.dirname(path)
+        return path not in self.after and (parent == b"/" or getattr(self.after.get(parent), "kind", None) == DIRECTORY)
+
+    def below(self, path):
+        return [one for one in self.after if one == path or one.startswith(path + b"/")]
+
+    def move(self, old, new):
+        """Gives something and all that is in it another path, and further names their first one."""
+        for path in self.below(old):
+            entry = self.after.pop(path)
+            entry.path = new + path[len(old):]
+            self.after[entry.path] = entry
+            for other in self.after.values():
+                if other.kind == FURTHER and other.content == path:
+                    other.content = entry.path
+
+
+class sound_times(sound):
+    """Right: and so are times."""
+
+    OPTIONS = ("--times",)
+
+
+class times_lost(sound_times):
+    """All have the time at which the server was started."""
+
+    def lose(self):
+        for entry in self.after.values():
+            entry.times = trees.NO_TIMES
+
+
+class last_block_lost(sound):
+    """A file that was written loses what is behind its last whole block of 4,096 bytes."""
+
+    def lose(self):
+        for entry in self.files():
+            if self.is_written(entry) and len(entry.content) > BLOCK:
+                entry.content = entry.content[:len(entry.content) // BLOCK * BLOCK]
+
+
+class last_block_zero(sound):
+    """Behind the last whole block of 4,096 bytes of a file that was written are zeros."""
+
+    def lose(self):
+        for entry in self.files():
+            whole = len(entry.content) // BLOCK * BLOCK
+            if self.is_written(entry) and whole:
+                entry.content = entry.content[:whole] + bytes(len(entry.content) - whole)
+
+
+class unclosed_lost(sound):
+    """A file that was open to be written when the session ended is empty."""
+
+    def lose(self):
+        for path in self.opened.values():
+            entry = self.after.get(path)
+            if entry and entry.kind == FILE and self.is_written(entry):
+                entry.content = b""
+
+
+class permissions_default(sound):
+    """Permissions that the session gave are those of a new file or directory."""
+
+    def lose(self):
+        for path, entry in self.after.items():
+            old = self.before.get(path)
+            if entry.kind in (FILE, DIRECTORY) and (old is None or old.permissions != entry.permissions):
+                entry.permissions = 0o644 if entry.kind == FILE else 0o755
+
+
+class owner_lost(sound):
+    """What the session gave to another user and group is the server's again."""
+
+    def lose(self):
+        for entry in self.after.values():
+            entry.uid = entry.gid = 0
+
+
+class removed_again(sound):
+    """A file that was removed is there again."""
+
+    def lose(self):
+        for path, entry in self.before.items():
+            if entry.kind == FILE and self.is_free(path) and path not in {old for old, _ in self.renamed}:
+                self.after[path] = entry
+
+
+class rename_undone(sound):
+    """The last thing that got another path has its old one."""
+
+    def lose(self):
+        found = [(old, new) for old, new in self.renamed
+                 if new in self.after and self.is_free(old) and not old.startswith(new + b"/")]
+        if found:
+            self.move(*reversed(found[-1]))
+
+
+class empty_directory_gone(sound):
+    """A directory without names that the session made is gone, as in a store of objects."""
+
+    def lose(self):
+        for entry in self.fresh(DIRECTORY):
+            if len(self.below(entry.path)) == 1:
+                self.drop(entry)
+
+
+class empty_file_gone(sound):
+    """A file without bytes that the session made is gone."""
+
+    def lose(self):
+        for entry in self.fresh(FILE):
+            if not entry.content:
+                self.drop(entry)
+
+
+class link_copied(sound):
+    """A link to a file that the session made is a copy of this file."""
+
+    def lose(self):
+        for entry in self.fresh(LINK):
+            target = self.after.get(clean(posixpath.join(posixpath.dirname(entry.path), entry.content)))
+            if target and target.kind == FILE:
+                self.after[entry.path] = Entry(entry.path, FILE, target.content, permissions=0o644)
+
+
+class link_absolute(sound):
+    """The relative target of a link that the session made is an absolute one."""
+
+    def lose(self):
+        for entry in self.fresh(LINK):
+            entry.content = clean(posixpath.join(posixpath.dirname(entry.path), entry.content))
+
+
+class Names(sound):
+    """Changes the names of what the session made."""
+
+    def lose(self):
+        for kind in (FILE, DIRECTORY, LINK):
+            for entry in self.fresh(kind):
+                place, name = posixpath.split(entry.path)
+                new = posixpath.join(place, self.changed_name(name))
+                if entry.path in self.after and self.is_free(new):
+                    self.move(entry.path, new)
+
+    def changed_name(self, name):
+        raise NotImplementedError
+
+
+class names_small(Names):
+    """Names that the session made have small letters in place of capitals."""
+
+    def changed_name(self, name):
+        return name.lower()
+
+
+class names_apart(Names):
+    """Letters with accents in names that the session made are two signs each (NFD)."""
+
+    def changed_name(self, name):
+        try:
+            return unicodedata.normalize("NFD", name.decode()).encode()[:trees.LONGEST_NAME]
+        except UnicodeDecodeError:
+            return name
+
+
+class names_trimmed(Names):
+    """Names that the session made lose blanks and dots at their end."""
+
+    def changed_name(self, name):
+        return name.rstrip(b" .") or name
+
+
+class cut_undone(sound):
+    """A file that was cut by SETSTAT or FSETSTAT is as long as before, with zeros."""
+
+    def lose(self):
+        for path, size in self.sizes.items():
+            entry, old = self.after.get(path), self.before.get(path)
+            length = max(self.lengths.get(path, 0), len(old.content) if old and old.kind == FILE else 0)
+            if entry and entry.kind == FILE and len(entry.content) == size < length < 2 ** 22:
+                entry.content += bytes(length - size)
+
+
+class replaced_empty(sound):
+    """A file that got its path by posix-rename is empty, as where names are on the disk before bytes are."""
+
+    def lose(self):
+        for entry in self.files():
+            if entry.path in self.replaced:
+                entry.content = b""
+
+
+class names_parted(sound):
+    """The names of a file have each a file of their own, with the same bytes."""
+
+    def lose(self):
+        for path, entry in self.after.items():
+            if entry.kind == FURTHER:
+                of = self.after[entry.content]
+                self.after[path] = Entry(path, FILE, of.content, of.uid, of.gid, of.permissions)
+
+
+class further_gone(sound):
+    """A further name that the session gave to a file is gone."""
+
+    def lose(self):
+        for entry in self.fresh(FURTHER):
+            del self.after[entry.path]
+
+
+class names_behind_thousand(sound):
+    """A directory has no more than 1,000 names."""
+
+    def lose(self):
+        for place in {posixpath.dirname(path) for path in self.after}:
+            there = [path for path in self.after if posixpath.dirname(path) == place]
+            for path in there[NAMES:]:
+                if len(self.below(path)) == 1:
+                    self.drop(self.after[path])
+
+
+class all_lost(sound):
+    """Nothing that the session changed is kept."""
+
+    def lose(self):
+        self.after = self.before
+
+
+def main():
+    fault, words = planted.named(planted.classes(globals()))
+    tree, folder = words
+    saved = os.path.join(folder, "saved.tree")
+    is_first = not os.path.exists(saved)
+    server = fault()
+    status = planted.passed(server, [program(), "serve", "--tree", tree if is_first else saved, "--save", saved,
+                                     "--no-sync", *fault.OPTIONS])
+    if is_first:
+        with open(tree, "rb") as before, open(saved, "rb") as after:
+            left = server.lost(trees.get(before.read()), trees.get(after.read()))
+        trees.write(left, saved)
+    os._exit(status)
+
+
+if __name__ == "__main__":
+    main()

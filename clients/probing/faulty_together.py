@@ -1,0 +1,82 @@
+"""Servers whose fault only two clients at once show, for clients/test-together.
+
+    python3 clients/probing/faulty_together.py FAULT COMMAND [ARGUMENT ...]
+
+runs the command, a sound server on files that others change, too, and stands between it and its client. Each session
+keeps what it knows of the files, until it changes something itself. So with one client no reply is other than right.
+"""
+import os
+import sys
+
+sys.path.insert(0, os.path.dirname(os.path.dirname(os.path.realpath(__file__))))
+
+import sftp3  # noqa: E402 (the folder above is not searched before)
+from probing import planted  # noqa: E402
+
+# Requests that change nothing.
+LOOKERS = {"STAT", "LSTAT", "FSTAT", "READLINK", "REALPATH", "READ", "OPENDIR", "READDIR", "CLOSE"}
+
+
+class sound(planted.Bug):
+    """Right: nothing is kept."""
+
+    # requests whose replies are kept
+    KEPT: tuple = ()
+
+    def __init__(self):
+        super().__init__()
+        # what each request is known by, and what was replied to those that are alike; the paths of handles
+        self.keys, self.known, self.paths, self.asked = {}, {}, {}, {}
+
+    def requests(self, packets):
+        for packet in packets:
+            asked = sftp3.decode(packet)
+            self.asked[asked.number] = asked
+            if asked.name not in LOOKERS and not (asked.name == "OPEN" and asked.fields[1] == sftp3.READ):
+                self.known.clear()
+            if asked.name in self.KEPT:
+                handle = asked.handle()
+                fields = asked.fields if handle is None else [self.paths.get(handle), *asked.fields[1:]]
+                self.keys[asked.number] = (asked.name, *fields)
+        return packets
+
+    def reply(self, packet):
+        reply = sftp3.Reply(packet)
+        asked = self.asked.pop(reply.number)
+        if reply.handle is not None:
+            self.paths[reply.handle] = asked.fields[0]
+        key = self.keys.pop(reply.number, None)
+        known = packet if key is None else self.known.setdefault(key, packet)
+        return known[:5] + packet[5:9] + known[9:]
+
+
+class attributes_kept(sound):
+    """STAT and LSTAT of a path give what they gave before, until the session itself changes something."""
+
+    KEPT = ("STAT", "LSTAT")
+
+
+class bytes_kept(sound):
+    """A READ gives what one of the same path and place gave before, until the session itself changes something."""
+
+    KEPT = ("READ",)
+
+
+class absence_kept(sound):
+    """What STAT and LSTAT did not find, they do not find, until the session itself changes something."""
+
+    KEPT = ("STAT", "LSTAT")
+
+    def reply(self, packet):
+        reply = sftp3.Reply(packet)
+        key = self.keys.pop(reply.number, None)
+        if key is not None and reply.code == sftp3.NO_SUCH_FILE:
+            self.known[key] = packet
+        if key in self.known:
+            return self.known[key][:5] + packet[5:9] + self.known[key][9:]
+        return super().reply(packet)
+
+
+if __name__ == "__main__":
+    fault, words = planted.named(planted.classes(globals()))
+    planted.run(fault(), words)

@@ -1,0 +1,86 @@
+"""A session over two connections to the same files: two clients of a server at once, each request sent once the one
+before has its reply. So what the one changes, the other has to see, and the audit judges both as one session.
+
+A handle is used on the connection that opened it, and its name in the record is another one if that is the second: two
+servers may give the same bytes. What has no handle goes by the first if its id is odd, else by the second.
+"""
+from probing import plans, servers, sessions
+
+
+class Other(sessions.Player):
+    """The second connection: it records in the session of the first."""
+
+    NAME = b"other %d"
+
+    def is_taken(self, handle):
+        return handle is not None
+
+
+class Both:
+    """Two connections, and the steps that are left."""
+
+    def __init__(self, server, tree_file, steps, timeout, stop, cut):
+        def player(kind, running, asked):
+            return kind(running, map(server.in_order, asked), 1, timeout, stop, cut, server.only_given)
+        seconds = timeout * sessions.OPENING
+        self.first = player(sessions.Player, server.start(tree_file, seconds, stop), steps)
+        self.players = [self.first]
+        self.session, self.steps, self.opened = self.first.session, [], {}
+        self.session.is_together, self.last = True, self.first
+        self.start_other = lambda: player(Other, server.again().start(tree_file, seconds, stop), [])
+
+    def play(self):
+        self.first.opening()
+        self.steps, self.first.waiting = list(self.first.waiting), type(self.first.waiting)()
+        other = self.start_other()
+        self.players.append(other)
+        other.opening()
+        other.running.started, other.session = self.first.running.started, self.session
+        other.most = other.left = self.first.most
+        while self.steps and not self.session.end:
+            self.ask(self.steps.pop(0))
+
+    def ask(self, step):
+        opener = plans.opener(step.handle())
+        player = self.opened.get(opener, self.players[1 - step.number % 2])
+        self.opened[step.number] = self.last = player
+        player.waiting.append(step)
+        player.run()
+
+    def part(self, seconds):
+        """Ends both: the one that was asked last first, since its end may be that of the session."""
+        errors, statuses = b"", []
+        for player in sorted(self.players, key=lambda one: one is not self.last):
+            own, player.session.errors = player.session, b""
+            player.part(seconds)
+            errors += own.errors
+            statuses.append(own.status)
+            self.session.unanswered = max(self.session.unanswered, len(player.unanswered))
+        self.session.errors = errors[-servers.KEPT:]
+        self.session.unasked = len(self.steps)
+        self.session.status = worst(statuses)
+
+
+def worst(statuses):
+    """The exit status to speak of: of a server that had to be stopped, of one that crashed, or of any that failed."""
+    if None in statuses:
+        return None
+    return next((one for one in statuses if sessions.is_crash(one)), max(statuses, key=abs))
+
+
+def play(server, tree_file, steps, timeout, stop=None, cut=None, parting=servers.PARTING):
+    """The session of these steps over two connections."""
+    both, why = Both(server, tree_file, steps, timeout, stop, cut), None
+    try:
+        both.play()
+    except sessions.NotStarted as error:
+        why = str(error)
+    except BaseException:
+        for player in both.players:
+            player.running.stop()
+        raise
+    finally:
+        both.part(parting)
+    if why:
+        raise sessions.NotStarted(both.session.told(why), both.session)
+    return both.session
