@@ -5,6 +5,7 @@ import os
 import re
 import resource
 import select
+import signal
 import subprocess
 import sys
 import time
@@ -435,7 +436,9 @@ class Told:
 
 
 def within(most: int) -> None:
-    """Bounds the address space of this process, as far as the system has no lower bound."""
+    """Bounds the address space of this process, as far as the system has no lower bound. Where a file may not be
+    longer, it gets an error in place of a signal, and so says which."""
+    signal.signal(signal.SIGXFSZ, signal.SIG_IGN)
     resource.setrlimit(resource.RLIMIT_AS, children.bounded(resource.getrlimit(resource.RLIMIT_AS), most))
 
 

@@ -94,7 +94,8 @@ def explained(why):
 def run(words, stop, space=None):
     """Runs a command to its end, in an address space of at most so many bytes; raises Stopped, and ends it, once `stop`
     is set."""
-    with children.child(words, stderr=subprocess.PIPE) as running:
+    # as Python itself it ignores SIGXFSZ, so that it says which file may not be longer
+    with children.child(words, stderr=subprocess.PIPE, restore_signals=False) as running:
         bound(running.pid, space)
         while not (stop and stop.is_set()):
             with suppress(subprocess.TimeoutExpired):

@@ -29,10 +29,10 @@ def lower_space(most: int) -> Optional[str]:
 @contextmanager
 def child(words: Sequence[str], **options) -> Iterator[subprocess.Popen]:
     """Starts a command whose output is read. A terminal's SIGINT does not end it. It is killed if the block fails, or a
-    signal ends the block. As Python itself it ignores SIGXFSZ, so that it says which file may not be longer."""
+    signal ends the block."""
     with ending.put_off() as go_on:
         running = subprocess.Popen(words, stdin=subprocess.DEVNULL, stdout=subprocess.PIPE, start_new_session=True,
-                                   restore_signals=False, **options)
+                                   **options)
         try:
             go_on()
             yield running
