@@ -32,6 +32,12 @@ def is_made(given):
     return ("--profile" in given or "made" in names(given, "--allow")) and "made" not in names(given, "--except")
 
 
+def umask(words):
+    """The permissions that a new file is judged to lack, by these words."""
+    given = pairs_of(words)
+    return int(given.get("--umask", "022"), 8) if is_made(given) else 0
+
+
 def otherwise(given, of_links, of_made):
     """The options that are tried beside these, each with its value: those on links, and those on new files."""
     found = [("--symlink", "draft")] if of_links and "--symlink" not in given else []

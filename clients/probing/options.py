@@ -8,7 +8,7 @@ import textwrap
 
 import sftp3
 from paging import exchanges, packets
-from probing import features, files, program, refusals, sessions, shrinking, verdicts
+from probing import features, files, lacking, program, refusals, sessions, shrinking, verdicts
 from recording.parsers import Parser
 from recording.ways import Way, from_root, is_inherited, named_twice, names, text_of
 
@@ -171,6 +171,8 @@ def add_of_plans(add):
     add("--skip", metavar="NAME,...", type=names_among(SKIPPED), default=[], help="what to leave out of the plans")
     add("--also", metavar="NAME,...", type=names_among(features.BEYOND), default=[],
         help="what to plan besides: large, long-target, for which a server has room, and the tree may not")
+    add("--without", metavar="NAME,...", type=names_among(lacking.NAMES), default=[],
+        help="what the server does not have: owners, permissions. None are set, and those that it shows are not judged")
     add("--session", metavar="FILE", help="play the requests of this transcript, not those of seeds")
     add("--look-first", metavar="PLACE", type=os.fsencode,
         help="play each session below a directory that it makes below this place, and judge it by the tree that was "

@@ -6,8 +6,8 @@ from dataclasses import dataclass, field
 from typing import List, Optional
 
 from paging import document
-from probing import (below, features, groups, hints, limits, options, ownfiles, planner, plans, program, reports,
-                     sessions, shrinking, starting, verdicts)
+from probing import (below, features, groups, hints, lacking, limits, options, ownfiles, planner, plans, program,
+                     reports, sessions, shrinking, starting, verdicts)
 from probing.sessions import NotStarted
 from sftp3 import trees
 from walking import bounds
@@ -123,6 +123,8 @@ class Run:
         auditor.options = self.profile(auditor)
         self.auditor = auditor
         self.try_profile(auditor, os.path.join(folder, "asked.tree"))
+        auditor.lacks = lacking.Lacking(given.without, (self.tree.uid, self.tree.gid), hints.umask(auditor.options))
+        self.tree = auditor.lacks.tree(self.tree)
         server = sessions.Server(given.command, given.reset, left, given.symlink == "draft", "BadHandle" in given.skip)
         # a record has the order of its server, a plan that of OpenSSH
         self.recorded = self.recorded and list(map(server.in_order, self.recorded))
@@ -142,7 +144,7 @@ class Run:
         folders = [self.place(folder, number) for number in range(options.jobs(self.given))]
         if self.given.look_first is None:
             return [limits.Worker(one, server, auditor, self.given.timeout) for one in folders]
-        place = below.Place(server, self.given.look_first, self.given.timeout, self.halt)
+        place = below.Place(server, self.given.look_first, self.given.timeout, self.halt, auditor.lacks)
         return [below.Worker(one, server, auditor, self.given.timeout, place) for one in folders]
 
     def place(self, folder, number):
@@ -179,7 +181,8 @@ class Run:
         skip = features.BEYOND.difference(self.given.also).union(self.given.skip)
 
         def steps_of(seed):
-            return self.recorded if self.given.session else planner.plan(seed, self.tree, self.given.requests, skip)
+            found = self.recorded if self.given.session else planner.plan(seed, self.tree, self.given.requests, skip)
+            return self.auditor.lacks.steps(found)
         self.tally.planned = len(numbers)
 
         def task_of(number):

@@ -27,6 +27,9 @@ ENDLESS = [
     ("ends_above", '"/live/f" is left'),
 ]
 
+# What is said of a server without files of its own.
+GONE = "is gone in the next session: --look-first is for servers that keep their files"
+
 PARTS = [b"..", b".", b"", b"a", b"to-d", b"..\0", b"..\0x", b"a\0b", b"\0..", b"...", b"n" * 255]
 
 
@@ -141,7 +144,11 @@ def try_openssh(steps, folder):
 def try_serve(steps, folder):
     start = os.path.join(folder, "blank.tree")
     trees.write(trees.Tree([trees.Entry(b"/place", trees.DIRECTORY)], limits=starting.ROOMY), start)
-    serve = [program(), "serve", "--tree", start]
+    forgetful = [program(), "serve", "--tree", start]
+    status, said = probe(folder, ["--look-first", "/place"], forgetful)
+    steps.check("a server that forgets all between two sessions is not accepted, and a line says what to do",
+                status == 3 and "accepted" not in said and GONE in said and "Traceback" not in said, f"{status}: {said}")
+    serve = [*forgetful, "--save", start]
     for words in ([], ["--shuffle", "3"]):
         status, said = probe(folder, ["--look-first", "place"], serve + words)
         steps.check(f"{' '.join(['serve', *words])}: sessions are accepted",
