@@ -246,6 +246,7 @@ class Place:
     def __init__(self, server, path, timeout, stop, lacks=lacking.Lacking()):
         if not looking.can_infer(program.program()):
             raise looking.NotInferred("the program sftpv3 has no `infer`, which --look-first needs")
+        self.stop = stop
         self.path, self.make = None, private if lacks.has_permissions() else plain
         with suppress(sessions.Stopped):
             hold(server, self.steps(path), timeout, stop)
@@ -315,7 +316,8 @@ class Worker(limits.Worker):
             asked = self.auditor.lacks.steps(base.steps(steps))
             session = sessions.play(self.server, "", asked, in_flight, timeout or self.timeout, stop, cut)
         finally:
-            left = Clearing(base.own).run(self.server, self.timeout, stop)
+            # also where the time of the session is over, as when it was shrunk
+            left = Clearing(base.own).run(self.server, self.timeout, self.place.stop)
             for line in left.split("\n") if left else ():
                 program.tell(f"probe: {line}")
         if is_refused(session.records, base.looking):

@@ -5,8 +5,9 @@ import signal
 import subprocess
 import threading
 import time
+from contextlib import suppress
 
-from probing import below, planner, servers, starting
+from probing import below, limits, planner, servers, sessions, starting, verdicts
 from probing.program import TOP, program
 from sftp3 import trees
 from trials.other_servers import SFTP_SERVER, has_openssh
@@ -161,6 +162,21 @@ def try_serve(steps, folder):
     status, said = run([program(), "audit", "--tree", os.path.join(first, "start.tree"), "--transcript",
                         os.path.join(first, "session.transcript")], folder)
     steps.check("what is kept is refused with the tree that is kept", status == 1 and said.startswith("refused"), said)
+
+
+def try_slow(steps, folder):
+    """Where the time of a session is over, what it made is removed all the same, however long that takes."""
+    if not has_openssh(steps):
+        return
+    live = os.path.join(folder, "slow")
+    os.mkdir(live)
+    server, halt = servers.Server(misbehaving("slow-removal", [SFTP_SERVER])), limits.Halt()
+    worker = below.Worker(folder, server, verdicts.Auditor(program(), folder, POSIX), PROMPT,
+                          below.Place(server, os.fsencode(live), PROMPT, halt))
+    with suppress(sessions.Stopped):
+        worker.play(starting.few(), [], 1, 1, limits.Until(halt, 3))
+    steps.check("a server that removes slowly is left without files of the probe", not os.listdir(live),
+                os.listdir(live))
 
 
 def try_usage(steps, folder):
