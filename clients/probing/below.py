@@ -186,6 +186,9 @@ class Clearing:
     def clear(self, entries):
         """Removes entries, given as their paths and their attributes."""
         directories = [path for path, found in entries if kind_of(found.attributes) == DIRECTORY]
+        # what its user may not enter is listed without names by some servers
+        yield [ask("SETSTAT", path, PRIVATE) for path, found in entries
+               if path in directories and ~found.attributes["permissions"] & 0o700]
         for path in directories:
             if len(parts_of(path)) - len(parts_of(self.path)) > DEEPEST:
                 raise bounds.Misbehaves(f"it has more than {DEEPEST} directories within each other")

@@ -33,9 +33,9 @@ def is_made(given):
 
 
 def umask(words):
-    """The permissions that a new file is judged to lack, by these words."""
+    """The permissions that something new is judged to lack, by these words; strictly those of the usual umask."""
     given = pairs_of(words)
-    return int(given.get("--umask", "022"), 8) if is_made(given) else 0
+    return int(is_made(given) and given.get("--umask") or "022", 8)
 
 
 def otherwise(given, of_links, of_made):

@@ -24,7 +24,7 @@ class Lacking:
     """What is put in the place of what a server does not have: the owner of all, and the permissions of a file and of a
     directory, those that a new one has by the umask."""
 
-    def __init__(self, given=(), owner=(0, 0), umask=0):
+    def __init__(self, given=(), owner=(0, 0), umask=0o22):
         self.given, self.owner = frozenset(given), owner
         self.of_file, self.of_directory = 0o666 & ~umask, 0o777 & ~umask
 

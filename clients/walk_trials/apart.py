@@ -3,6 +3,7 @@ import os
 import random
 import signal
 import subprocess
+import tempfile
 import threading
 import time
 from contextlib import suppress
@@ -177,6 +178,24 @@ def try_slow(steps, folder):
         worker.play(starting.few(), [], 1, 1, limits.Until(halt, 3))
     steps.check("a server that removes slowly is left without files of the probe", not os.listdir(live),
                 os.listdir(live))
+
+
+def try_locked(steps, folder):
+    """What the server's user may list and not enter is opened first, and removed: the listing of OpenSSH's server leaves
+    all names out."""
+    if not has_openssh(steps):
+        return
+    server = [SFTP_SERVER]
+    with tempfile.TemporaryDirectory(dir="/tmp") as live:
+        if os.geteuid() == 0:
+            server = ["setpriv", "--reuid=65534", "--regid=65534", "--clear-groups", "--", *server]
+        os.makedirs(os.path.join(live, "own", "locked", "in"))
+        for place in ("own/locked/in", "own/locked", "own", ""):
+            os.chown(os.path.join(live, place), 65534 if os.geteuid() == 0 else -1, -1)
+        os.chmod(os.path.join(live, "own", "locked"), 0o600)
+        said = below.Clearing(os.fsencode(live) + b"/own").run(servers.Server(server), PROMPT)
+        steps.check("a directory that its user may list and not enter is removed with what is in it",
+                    said is None and not os.listdir(live), said)
 
 
 def try_usage(steps, folder):
