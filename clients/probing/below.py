@@ -348,7 +348,8 @@ class Worker(limits.Worker):
         is_there, said, why = looking.infer(self.auditor.program, self.seen, self.kept_tree, self.auditor.options,
                                               program.MEMORY, stop)
         if not is_there:
-            raise verdicts.Trouble("\n".join(["no tree is what the session saw at its start: " + said, why]), 1)
+            lines = ["no tree is what the session saw at its start: " + said, why]
+            raise verdicts.Trouble("\n".join(lines + umask_of(session.records, max(numbers), self.auditor.lacks)), 1)
         with open(self.kept_tree, "rb") as file:
             session.start = file.read()
 
@@ -365,6 +366,19 @@ def is_refused(records, looking):
     refused = (packet for side, packet in records[2:] if side == sftp3.SERVER and len(packet) >= 13
                and packet[4] == sftp3.STATUS and packet[9:13] != bytes(4))
     return any(sftp3.id_of(packet) in made for packet in refused)
+
+
+def umask_of(records, number, lacks):
+    """A line on the umask of a server that gives other permissions than expected to the directory that the LSTAT with
+    this number shows, which MKDIR made without any."""
+    shown = [packet for side, packet in records[2:]
+             if side == sftp3.SERVER and packet[4] == sftp3.ATTRS and sftp3.id_of(packet) == number]
+    with suppress(sftp3.Malformed, IndexError):
+        given = sftp3.attributes_in(shown[0]).get("permissions", 0) & 0o7777
+        if lacks.has_permissions() and given not in (lacks.of_directory, 0) and given <= 0o777:
+            return [f"MKDIR without permissions made a directory with {given:04o}: by a umask, that is "
+                    f"--umask {0o777 & ~given:03o}"]
+    return []
 
 
 def of_numbers(records, numbers):

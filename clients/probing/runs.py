@@ -116,7 +116,8 @@ class Run:
         if given.report:
             options.can_write("--report", given.report)
         usual = starting.usual if given.look_first is None else starting.few
-        self.tree = options.read("--tree", given.tree, trees.get) if given.tree else usual()
+        self.tree = options.read("--tree", given.tree, trees.get) if given.tree else \
+            starting.without(usual(), given.skip)
         self.recorded = options.read("--session", given.session, plans.steps_of) if given.session else None
         self.program = program.program()
         auditor = verdicts.Auditor(self.program, folder)

@@ -165,6 +165,18 @@ def try_serve(steps, folder):
     steps.check("what is kept is refused with the tree that is kept", status == 1 and said.startswith("refused"), said)
 
 
+def try_umask(steps, folder):
+    """Where the server has another umask than is given, a line names it."""
+    if not has_openssh(steps):
+        return
+    live = os.path.join(folder, "umask")
+    os.mkdir(live)
+    status, said = probe(folder, ["--look-first", live, *POSIX, "--requests", "2", "--skip", "transfers"],
+                         [SFTP_SERVER, "-u", "027"])
+    steps.check("a server with the umask 027: status 3, and a line names it", status == 3 and not os.listdir(live) and
+                "no tree is what the session saw" in said and "--umask 027" in said, said[-2000:])
+
+
 def try_slow(steps, folder):
     """Where the time of a session is over, what it made is removed all the same, however long that takes."""
     if not has_openssh(steps):
