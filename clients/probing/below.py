@@ -16,7 +16,7 @@ import time
 from contextlib import suppress
 
 import sftp3
-from probing import limits, program, restarts, servers, sessions, verdicts
+from probing import lacking, limits, program, restarts, servers, sessions, verdicts
 from probing.plans import Step
 from sftp3 import trees
 from walking import bounds, looking
@@ -186,6 +186,9 @@ class Clearing:
     def clear(self, entries):
         """Removes entries, given as their paths and their attributes."""
         directories = [path for path, found in entries if kind_of(found.attributes) == DIRECTORY]
+        # what its user may not enter is listed without names by some servers
+        yield [ask("SETSTAT", path, PRIVATE) for path, found in entries
+               if path in directories and ~found.attributes["permissions"] & 0o700]
         for path in directories:
             if len(parts_of(path)) - len(parts_of(self.path)) > DEEPEST:
                 raise bounds.Misbehaves(f"it has more than {DEEPEST} directories within each other")
@@ -241,12 +244,13 @@ PRIVATE = {"permissions": 0o700}
 
 class Place:
     """Where sessions make their directories: an absolute path, as REALPATH tells it, of a directory. It is not known
-    if `stop` was set by then; so no session is played."""
+    if `stop` was set by then; so no session is played. `lacks` is what the server does not have."""
 
-    def __init__(self, server, path, timeout, stop):
+    def __init__(self, server, path, timeout, stop, lacks=lacking.Lacking()):
         if not looking.can_infer(program.program()):
             raise looking.NotInferred("the program sftpv3 has no `infer`, which --look-first needs")
-        self.path = None
+        self.stop = stop
+        self.path, self.make = None, private if lacks.has_permissions() else plain
         with suppress(sessions.Stopped):
             hold(server, self.steps(path), timeout, stop)
 
@@ -258,7 +262,7 @@ class Place:
             raise bounds.Misbehaves(f"{bounds.shown(place)} is no directory: {found.why()}")
         self.path = b"" if place == b"/" else place
         made = self.new()
-        why = yield from private(made)
+        why = yield from self.make(made)
         yield [ask("RMDIR", made)]
         if why:
             raise bounds.Misbehaves(why)
@@ -278,8 +282,21 @@ def private(path):
         # some servers have no regard for the permissions of MKDIR
         yield [ask("SETSTAT", path, PRIVATE)]
         (found,) = yield [ask("LSTAT", path)]
-    return f"{bounds.shown(path)} is none that only the server's user can enter: nothing is made in it" \
-        if is_open(found) else None
+    return OPEN.format(bounds.shown(path)) if is_open(found) else None
+
+
+# What is said of a directory that others can enter.
+OPEN = ("{} is none that only the server's user can enter: nothing is made in it\nif the server has no permissions, and "
+        "nobody else reaches the place: --without permissions")
+
+
+def plain(path):
+    """Makes a directory on a server without permissions, and gives why there is none."""
+    (made,) = yield [ask("MKDIR", path, {})]
+    if made.code != 0:
+        return f"{bounds.shown(path)} cannot be made: {made.why()}"
+    (found,) = yield [ask("LSTAT", path)]
+    return None if kind_of(found.attributes or {}) == DIRECTORY else f"{bounds.shown(path)} is no directory"
 
 
 def is_open(found):
@@ -299,12 +316,15 @@ class Worker(limits.Worker):
         base = Below(self.place.new(), tree)
         try:
             self.make(base.own, stop)
-            session = restarts.play(self.server, "", base.steps(steps), in_flight, timeout or self.timeout, stop, cut,
-                                    self.again)
+            asked = self.auditor.lacks.steps(base.steps(steps))
+            session = restarts.play(self.server, "", asked, in_flight, timeout or self.timeout, stop, cut, self.again)
         finally:
-            left = Clearing(base.own).run(self.server, self.timeout, stop)
+            # also where the time of the session is over, as when it was shrunk
+            left = Clearing(base.own).run(self.server, self.timeout, self.place.stop)
             for line in left.split("\n") if left else ():
                 program.tell(f"probe: {line}")
+        if is_refused(session.records, base.looking):
+            raise bounds.Misbehaves(GONE.format(bounds.shown(base.own)))
         self.infer(session, {step.number for step in base.looking}, stop)
         return session, verdicts.judge(self.auditor, self.kept_tree, session, seed, stop)
 
@@ -313,7 +333,7 @@ class Worker(limits.Worker):
         found = []
 
         def steps():
-            found.append((yield from private(path)))
+            found.append((yield from self.place.make(path)))
         try:
             hold(self.server, steps(), self.timeout, stop)
         except bounds.Misbehaves as error:
@@ -324,13 +344,41 @@ class Worker(limits.Worker):
     def infer(self, session, numbers, stop):
         """Has the tree made that the requests with these numbers saw, and keeps it with the session."""
         with open(self.seen, "wb") as file:
-            file.write(sftp3.put_records(of_numbers(session.records, numbers)))
+            file.write(sftp3.put_records(of_numbers(self.auditor.lacks.records(session.records), numbers)))
         is_there, said, why = looking.infer(self.auditor.program, self.seen, self.kept_tree, self.auditor.options,
                                               program.MEMORY, stop)
         if not is_there:
-            raise verdicts.Trouble("\n".join(["no tree is what the session saw at its start: " + said, why]), 1)
+            lines = ["no tree is what the session saw at its start: " + said, why]
+            raise verdicts.Trouble("\n".join(lines + umask_of(session.records, max(numbers), self.auditor.lacks)), 1)
         with open(self.kept_tree, "rb") as file:
             session.start = file.read()
+
+
+# What is said where nothing of a plan could be done.
+GONE = ("{} was made, and is gone in the next session: --look-first is for servers that keep their files\none that starts "
+        "each session anew is played without it, with --tree FILE, the tree that it starts from (sftpv3 blank FILE)")
+
+
+def is_refused(records, looking):
+    """Whether the place of a plan could not be made, since the directory that it is to be in is not there any more: all
+    that the plan asks would then be refused, and accepted as such."""
+    made = {step.number for step in looking if step.name == "MKDIR"}
+    refused = (packet for side, packet in records[2:] if side == sftp3.SERVER and len(packet) >= 13
+               and packet[4] == sftp3.STATUS and packet[9:13] != bytes(4))
+    return any(sftp3.id_of(packet) in made for packet in refused)
+
+
+def umask_of(records, number, lacks):
+    """A line on the umask of a server that gives other permissions than expected to the directory that the LSTAT with
+    this number shows, which MKDIR made without any."""
+    shown = [packet for side, packet in records[2:]
+             if side == sftp3.SERVER and packet[4] == sftp3.ATTRS and sftp3.id_of(packet) == number]
+    with suppress(sftp3.Malformed, IndexError):
+        given = sftp3.attributes_in(shown[0]).get("permissions", 0) & 0o7777
+        if lacks.has_permissions() and given not in (lacks.of_directory, 0) and given <= 0o777:
+            return [f"MKDIR without permissions made a directory with {given:04o}: by a umask, that is "
+                    f"--umask {0o777 & ~given:03o}"]
+    return []
 
 
 def of_numbers(records, numbers):

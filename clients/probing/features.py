@@ -28,6 +28,8 @@ FEATURES = {
     "moved-listing": "what moves a directory that is open, or takes its path away",
     "removed-name": "what takes a name out of a directory that is open",
     "removed-open": "RMDIR of a directory that is open",
+    "removed-file": "what takes away a name of a file that is open",
+    "denying": "permissions that deny something to the owner of a directory or file",
     "realpath-ring": "REALPATH of links that lead round in a ring",
     "transfers": "uploads and downloads in blocks, and what follows them on the same files",
     "crowds": "directories of up to 5,000 names that the session makes",
@@ -90,8 +92,14 @@ def opened_by(planner, handle):
     return planner.opened.get(getattr(handle, "step", None))
 
 
-def of_open(planner, _step, path, flags, _attributes):
-    model, found = planner.model, set()
+def denying(kind, given):
+    """Whether permissions for something of this kind deny something to its owner."""
+    most = 0o700 if kind == DIRECTORY else 0o600 if kind == FILE else 0
+    return {"denying"} if ~given.get("permissions", 0o700) & most else set()
+
+
+def of_open(planner, _step, path, flags, attributes):
+    model, found = planner.model, denying(FILE, attributes)
     place, link = model.walk(path, True), model.at(model.walk(path, False))
     entry = model.at(place)
     if entry and entry.kind == FILE and entry.number in {opened.number for opened in planner.opened.values()}:
@@ -120,8 +128,20 @@ def of_length(planner, length):
     return {"large"} if planner.model.largest < length < FAR else set()
 
 
-def of_size(planner, _step, _path_or_handle, given):
-    return of_length(planner, given.get("size", 0))
+def of_setstat(planner, _step, path, given):
+    entry = planner.model.at(planner.model.walk(path, True))
+    # by its text alone, `f/..` of a file is a directory
+    kind = entry.kind if entry else DIRECTORY if b".." in path.split(b"/") else None
+    return of_length(planner, given.get("size", 0)) | denying(kind, given)
+
+
+def of_fsetstat(planner, _step, handle, given):
+    opened = opened_by(planner, handle)
+    return of_length(planner, given.get("size", 0)) | (denying(opened.kind, given) if opened else set())
+
+
+def of_mkdir(_planner, _step, _path, given):
+    return denying(DIRECTORY, given)
 
 
 def of_realpath(planner, _step, path):
@@ -150,6 +170,21 @@ def of_move(planner, step, *_paths):
     return found
 
 
+def of_name(planner, path):
+    """Whether a path is a name of a file that is open."""
+    entry = planner.model.at(planner.model.walk(path, False))
+    is_open = entry and entry.number in {opened.number for opened in planner.opened.values() if opened.kind == FILE}
+    return {"removed-file"} if is_open else set()
+
+
+def of_remove(planner, step, path):
+    return of_move(planner, step, path) | of_name(planner, path)
+
+
+def of_posix_rename(planner, step, old, new):
+    return of_move(planner, step, old, new) | of_name(planner, new)
+
+
 def of_rmdir(planner, step, path):
     entry = planner.model.at(planner.model.walk(path, False))
     is_open = entry and entry.kind == DIRECTORY and any(opened.entry is entry for opened in planner.opened.values())
@@ -157,6 +192,7 @@ def of_rmdir(planner, step, path):
 
 
 TESTS = {
-    "OPEN": of_open, "READ": of_read, "WRITE": of_write, "SETSTAT": of_size, "FSETSTAT": of_size,
-    "REALPATH": of_realpath, "RENAME": of_rename, "POSIX-RENAME": of_move, "REMOVE": of_move, "RMDIR": of_rmdir,
+    "OPEN": of_open, "READ": of_read, "WRITE": of_write, "SETSTAT": of_setstat, "FSETSTAT": of_fsetstat,
+    "MKDIR": of_mkdir, "REALPATH": of_realpath, "RENAME": of_rename, "POSIX-RENAME": of_posix_rename,
+    "REMOVE": of_remove, "RMDIR": of_rmdir,
 }

@@ -35,6 +35,12 @@ def is_made(given):
     return ("--profile" in given or "made" in names(given, "--allow")) and "made" not in names(given, "--except")
 
 
+def umask(words):
+    """The permissions that something new is judged to lack, by these words; strictly those of the usual umask."""
+    given = pairs_of(words)
+    return int(is_made(given) and given.get("--umask") or "022", 8)
+
+
 def otherwise(given, of_links, of_made):
     """The options that are tried beside these, each with its value: those on links, and those on new files."""
     found = [("--symlink", "draft")] if of_links and "--symlink" not in given else []

@@ -187,6 +187,14 @@ class slow(Healthy):
             time.sleep(0.1)
 
 
+class slow_removal(Healthy):
+    """Each reply to REMOVE and RMDIR takes a second."""
+
+    def before(self, asked):
+        if asked.name in ("REMOVE", "RMDIR"):
+            time.sleep(1)
+
+
 class waits_once(Healthy):
     """The 9th reply takes a second, and then the file of $MARK is there."""
 

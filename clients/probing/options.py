@@ -8,7 +8,7 @@ import textwrap
 
 import sftp3
 from paging import exchanges, packets
-from probing import features, files, program, refusals, sessions, shrinking, verdicts
+from probing import features, files, lacking, program, refusals, sessions, shrinking, verdicts
 from recording.parsers import Parser
 from recording.ways import Way, from_root, is_inherited, named_twice, names, text_of
 
@@ -183,6 +183,8 @@ def add_of_plans(add):
     add("--also", metavar="NAME,...", type=names_among(features.ALSO), default=[],
         help="what to plan besides: large, long-target, for which a server has room, and the tree may not; and "
              "two-clients, which have each session together, one request after the other")
+    add("--without", metavar="NAME,...", type=names_among(lacking.NAMES), default=[],
+        help="what the server does not have: owners, permissions. None are set, and those that it shows are not judged")
     add("--session", metavar="FILE", help="play the requests of this transcript, not those of seeds")
     add("--start-again", metavar="N", type=positive,
         help="start the server again on the same files before the N-th request of --session")

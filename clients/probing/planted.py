@@ -82,17 +82,45 @@ class wrong_byte(Bug):
         return packet[:-1] + bytes([packet[-1] ^ 1])
 
 
-class no_owners(wrong_byte):
-    """Attributes have no owner; and the last byte of DATA of five bytes or more is another."""
+class Showing(Bug):
+    """Replies show other attributes."""
 
     def changed(self, name, packet):
         if packet[4] == sftp3.ATTRS:
             given = self.shown(sftp3.attributes_in(packet))
             return sftp3.packet(sftp3.ATTRS, packet[5:9] + sftp3.attributes(given))
         if packet[4] == sftp3.NAME:
-            items = [(name, long, self.shown(given)) for name, long, given in sftp3.names_in(packet)]
+            items = [(path, long, given and self.shown(given)) for path, long, given in sftp3.names_in(packet)]
             return sftp3.packet(sftp3.NAME, packet[5:9] + sftp3.names(items))
         return super().changed(name, packet)
+
+    def shown(self, given):
+        return given
+
+
+class fixed_owners(Showing):
+    """All things have one owner."""
+
+    def shown(self, given):
+        return {**given, "owner": (65534, 65534)}
+
+
+class fixed_permissions(Showing):
+    """All things have the permissions 0777."""
+
+    def shown(self, given):
+        return {**given, "permissions": given["permissions"] & 0o170000 | 0o777}
+
+
+class fixed_sizes(fixed_permissions):
+    """The same, and 7 bytes each."""
+
+    def shown(self, given):
+        return {**super().shown(given), "size": 7}
+
+
+class no_owners(Showing, wrong_byte):
+    """Attributes have no owner; and the last byte of DATA of five bytes or more is another."""
 
     def shown(self, given):
         return {name: value for name, value in given.items() if name != "owner"}

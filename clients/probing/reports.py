@@ -98,7 +98,7 @@ def print_group(number, group):
 # What is said once, as soon as a reply shows it.
 NO_OWNERS = ("probe: the server shows attributes without an owner (uid and gid), which no profile accepts: the first "
              "such reply of a session is a difference, and the others are not judged, with all that they show: sizes, "
-             "permissions, and the names of listings")
+             "permissions, and the names of listings; --without owners judges all but the owner")
 
 
 def unjudged(tally):

@@ -6,8 +6,8 @@ from dataclasses import dataclass, field
 from typing import List, Optional
 
 from paging import document
-from probing import (below, features, groups, hints, lasting, limits, options, ownfiles, planner, plans, program,
-                     reports, restarts, sessions, shrinking, starting, verdicts)
+from probing import (below, features, groups, hints, lacking, lasting, limits, options, ownfiles, planner, plans,
+                     program, reports, restarts, sessions, shrinking, starting, verdicts)
 from probing.sessions import NotStarted
 from sftp3 import trees
 from walking import bounds
@@ -145,13 +145,16 @@ class Run:
         if given.report:
             options.can_write("--report", given.report)
         usual = starting.usual if given.look_first is None else starting.few
-        self.tree = options.read("--tree", given.tree, trees.get) if given.tree else usual()
+        self.tree = options.read("--tree", given.tree, trees.get) if given.tree else \
+            starting.without(usual(), given.skip)
         self.recorded = options.read("--session", given.session, plans.steps_of) if given.session else None
         self.program = program.program()
         auditor = verdicts.Auditor(self.program, folder)
         auditor.options = self.profile(auditor)
         self.auditor = auditor
         self.try_profile(auditor, os.path.join(folder, "asked.tree"))
+        auditor.lacks = lacking.Lacking(given.without, (self.tree.uid, self.tree.gid), hints.umask(auditor.options))
+        self.tree = auditor.lacks.tree(self.tree)
         server = sessions.Server(given.command, given.reset, left, given.symlink == "draft", "BadHandle" in given.skip)
         # a record has the order of its server, a plan that of OpenSSH
         self.recorded = self.recorded and list(map(server.in_order, self.recorded))
@@ -177,7 +180,7 @@ class Run:
         folders = [self.place(folder, number) for number in range(options.jobs(self.given))]
         if self.given.look_first is None:
             return [limits.Worker(one, server, auditor, self.given.timeout, self.again) for one in folders]
-        place = below.Place(server, self.given.look_first, self.given.timeout, self.halt)
+        place = below.Place(server, self.given.look_first, self.given.timeout, self.halt, auditor.lacks)
         return [below.Worker(one, server, auditor, self.given.timeout, self.again, place) for one in folders]
 
     def place(self, folder, number):
@@ -214,15 +217,17 @@ class Run:
         skip = features.BEYOND.difference(self.given.also).union(self.given.skip)
 
         def steps_of(seed):
-            if self.given.session:
-                return self.recorded
-            steps = planner.plan(seed, self.tree, self.given.requests, skip)
-            return lasting.lasting(steps, self.tree, skip) if self.again.is_wanted else steps
+            return self.auditor.lacks.steps(self.recorded if self.given.session else self.planned(seed, skip))
         self.tally.planned = len(numbers)
 
         def task_of(number):
             return lambda worker: Plan(self.given, number, steps_of(number), self.tree, self.playing).play(worker)
         return map(task_of, numbers)
+
+    def planned(self, seed, skip):
+        """The steps of a seed, and those that look, where that can be, at what they leave."""
+        steps = planner.plan(seed, self.tree, self.given.requests, skip)
+        return lasting.lasting(steps, self.tree, skip) if self.again.is_wanted else steps
 
     def play(self):
         """Plays all seeds; raises NotStarted if the server did not start for the first."""

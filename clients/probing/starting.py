@@ -30,6 +30,15 @@ def usual():
     return Tree(entries + many, limits=ROOMY)
 
 
+# The kinds of entries that a server has only if it does this request.
+MADE_BY = {LINK: "SYMLINK", FURTHER: "HARDLINK"}
+
+
+def without(tree, skip):
+    """A tree of the probe without what no session is to make."""
+    return tree.with_entries([entry for entry in tree.entries if MADE_BY.get(entry.kind) not in skip])
+
+
 def few():
     """The same with few entries, for sessions that make them."""
     return Tree([entry for entry in usual().entries if not entry.path.startswith(b"/many/")])

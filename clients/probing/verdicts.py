@@ -9,7 +9,7 @@ from dataclasses import dataclass
 from typing import Dict, List, Optional, Tuple
 
 import sftp3
-from probing import groups, servers, set_times
+from probing import groups, lacking, servers, set_times
 from probing.sessions import Session, Stopped
 from recording import children
 
@@ -25,9 +25,6 @@ def profile_words(given):
 
 # The most differences of a session that are told apart: each takes an audit more, and a session may have thousands.
 MOST_DIFFERENCES = 12
-
-# The requests whose replies show attributes.
-SHOWING = ("STAT", "LSTAT", "FSTAT", "READDIR")
 
 # Seconds from a look at what may stop an audit to the next.
 GLANCE = 0.2
@@ -113,15 +110,16 @@ def bound(process, space):
 
 
 class Auditor:
-    """Runs `sftpv3 audit --explain` with these options, in a folder for its files."""
+    """Runs `sftpv3 audit --explain` with these options, in a folder for its files. `lacks` is what the server does not
+    have."""
 
-    def __init__(self, program, folder, options=()):
-        self.program, self.options = program, list(options)
+    def __init__(self, program, folder, options=(), lacks=lacking.Lacking()):
+        self.program, self.options, self.lacks = program, list(options), lacks
         self.file = os.path.join(folder, "judged.transcript")
 
     def in_folder(self, folder):
         """The same with a folder of its own."""
-        return Auditor(self.program, folder, self.options)
+        return Auditor(self.program, folder, self.options, self.lacks)
 
     def judge(self, tree_file, records, stop=None):
         """The verdict. Raises Stopped, and ends the audit, once `stop` is set."""
@@ -208,6 +206,7 @@ class Judged:
 def judge(auditor, tree_file, session, seed=0, stop=None):
     """All differences of a session that can be told apart; those found so far, once `stop` is set. Raises Stopped if
     there are none."""
+    session.records = auditor.lacks.records(session.records)
     judged, places = Judged(), list(range(len(session.records)))
     while places and len(judged.differences) < MOST_DIFFERENCES:
         records = [session.records[place] for place in places]
@@ -316,7 +315,7 @@ def showing_no_owner(records):
             asked[packet[5:9]] = place
         elif place > 1 and packet[4] in (sftp3.ATTRS, sftp3.NAME) and packet[5:9] in asked:
             request = asked[packet[5:9]]
-            if request_at(records, request).name in SHOWING and lacks_owner(packet):
+            if request_at(records, request).name in lacking.SHOWING and lacks_owner(packet):
                 yield request, place
 
 

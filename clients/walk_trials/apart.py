@@ -3,10 +3,12 @@ import os
 import random
 import signal
 import subprocess
+import tempfile
 import threading
 import time
+from contextlib import suppress
 
-from probing import below, planner, servers, starting
+from probing import below, limits, planner, servers, sessions, starting, verdicts
 from probing.program import TOP, program
 from sftp3 import trees
 from trials.other_servers import SFTP_SERVER, has_openssh
@@ -26,6 +28,9 @@ ENDLESS = [
     ("long_names", '"/live" is left'),
     ("ends_above", '"/live/f" is left'),
 ]
+
+# What is said of a server without files of its own.
+GONE = "is gone in the next session: --look-first is for servers that keep their files"
 
 PARTS = [b"..", b".", b"", b"a", b"to-d", b"..\0", b"..\0x", b"a\0b", b"\0..", b"...", b"n" * 255]
 
@@ -141,7 +146,11 @@ def try_openssh(steps, folder):
 def try_serve(steps, folder):
     start = os.path.join(folder, "blank.tree")
     trees.write(trees.Tree([trees.Entry(b"/place", trees.DIRECTORY)], limits=starting.ROOMY), start)
-    serve = [program(), "serve", "--tree", start]
+    forgetful = [program(), "serve", "--tree", start]
+    status, said = probe(folder, ["--look-first", "/place"], forgetful)
+    steps.check("a server that forgets all between two sessions is not accepted, and a line says what to do",
+                status == 3 and "accepted" not in said and GONE in said and "Traceback" not in said, f"{status}: {said}")
+    serve = [*forgetful, "--save", start]
     for words in ([], ["--shuffle", "3"]):
         status, said = probe(folder, ["--look-first", "place"], serve + words)
         steps.check(f"{' '.join(['serve', *words])}: sessions are accepted",
@@ -154,6 +163,51 @@ def try_serve(steps, folder):
     status, said = run([program(), "audit", "--tree", os.path.join(first, "start.tree"), "--transcript",
                         os.path.join(first, "session.transcript")], folder)
     steps.check("what is kept is refused with the tree that is kept", status == 1 and said.startswith("refused"), said)
+
+
+def try_umask(steps, folder):
+    """Where the server has another umask than is given, a line names it."""
+    if not has_openssh(steps):
+        return
+    live = os.path.join(folder, "umask")
+    os.mkdir(live)
+    status, said = probe(folder, ["--look-first", live, *POSIX, "--requests", "2", "--skip", "transfers"],
+                         [SFTP_SERVER, "-u", "027"])
+    steps.check("a server with the umask 027: status 3, and a line names it", status == 3 and not os.listdir(live) and
+                "no tree is what the session saw" in said and "--umask 027" in said, said[-2000:])
+
+
+def try_slow(steps, folder):
+    """Where the time of a session is over, what it made is removed all the same, however long that takes."""
+    if not has_openssh(steps):
+        return
+    live = os.path.join(folder, "slow")
+    os.mkdir(live)
+    server, halt = servers.Server(misbehaving("slow-removal", [SFTP_SERVER])), limits.Halt()
+    worker = below.Worker(folder, server, verdicts.Auditor(program(), folder, POSIX), PROMPT,
+                          below.Place(server, os.fsencode(live), PROMPT, halt))
+    with suppress(sessions.Stopped):
+        worker.play(starting.few(), [], 1, 1, limits.Until(halt, 3))
+    steps.check("a server that removes slowly is left without files of the probe", not os.listdir(live),
+                os.listdir(live))
+
+
+def try_locked(steps, folder):
+    """What the server's user may list and not enter is opened first, and removed: the listing of OpenSSH's server leaves
+    all names out."""
+    if not has_openssh(steps):
+        return
+    server = [SFTP_SERVER]
+    with tempfile.TemporaryDirectory(dir="/tmp") as live:
+        if os.geteuid() == 0:
+            server = ["setpriv", "--reuid=65534", "--regid=65534", "--clear-groups", "--", *server]
+        os.makedirs(os.path.join(live, "own", "locked", "in"))
+        for place in ("own/locked/in", "own/locked", "own", ""):
+            os.chown(os.path.join(live, place), 65534 if os.geteuid() == 0 else -1, -1)
+        os.chmod(os.path.join(live, "own", "locked"), 0o600)
+        said = below.Clearing(os.fsencode(live) + b"/own").run(servers.Server(server), PROMPT)
+        steps.check("a directory that its user may list and not enter is removed with what is in it",
+                    said is None and not os.listdir(live), said)
 
 
 def try_usage(steps, folder):
