@@ -319,11 +319,12 @@ class names_behind_thousand(sound):
     """A directory has no more than 1,000 names."""
 
     def lose(self):
-        for place in {posixpath.dirname(path) for path in self.after}:
-            there = [path for path in self.after if posixpath.dirname(path) == place]
-            for path in there[NAMES:]:
-                if len(self.below(path)) == 1:
-                    self.drop(self.after[path])
+        counts, kept = {}, self.further() | {posixpath.dirname(path) for path in self.after}
+        for path in list(self.after):
+            place = posixpath.dirname(path)
+            counts[place] = counts.get(place, 0) + 1
+            if counts[place] > NAMES and path not in kept:
+                del self.after[path]
 
 
 class all_lost(sound):
