@@ -356,7 +356,8 @@ class Worker(limits.Worker):
 
 # What is said where nothing of a plan could be done.
 GONE = ("{} was made, and is gone in the next session: --look-first is for servers that keep their files\none that "
-        "starts each session anew is played without it, with --tree FILE, the tree that it starts from (sftpv3 blank FILE)")
+        "starts each session anew is played without it, with --tree FILE, the tree that it starts from "
+        "(sftpv3 blank FILE)")
 
 
 def is_refused(records, looking):
