@@ -286,8 +286,8 @@ def private(path):
 
 
 # What is said of a directory that others can enter.
-OPEN = ("{} is none that only the server's user can enter: nothing is made in it\nif the server has no permissions, and "
-        "nobody else reaches the place: --without permissions")
+OPEN = ("{} is none that only the server's user can enter: nothing is made in it\nif the server has no permissions, "
+        "and nobody else reaches the place: --without permissions")
 
 
 def plain(path):
@@ -355,8 +355,9 @@ class Worker(limits.Worker):
 
 
 # What is said where nothing of a plan could be done.
-GONE = ("{} was made, and is gone in the next session: --look-first is for servers that keep their files\none that starts "
-        "each session anew is played without it, with --tree FILE, the tree that it starts from (sftpv3 blank FILE)")
+GONE = ("{} was made, and is gone in the next session: --look-first is for servers that keep their files\none that "
+        "starts each session anew is played without it, with --tree FILE, the tree that it starts from "
+        "(sftpv3 blank FILE)")
 
 
 def is_refused(records, looking):

@@ -1,7 +1,7 @@
-"""What a server does not have, as `--without` names it: owners, or permissions. No request sets it, the tree has the
-same of everything, and each reply is judged as if it showed that. So sizes, kinds, names and bytes are judged of servers
-that show no owners, the same one always, or permissions that nobody can change: those of stores of objects, of what is
-in memory only, of exFAT. What is kept of a session is what was judged."""
+"""What a server does not have, as `--without` names it: owners, or permissions. No request sets it, the tree has
+the same of everything, and each reply is judged as if it showed that. So sizes, kinds, names and bytes are judged of
+servers that show no owners, the same one always, or permissions that nobody can change: those of stores of
+objects, of what is in memory only, of exFAT. What is kept of a session is what was judged."""
 import copy
 from contextlib import suppress
 

@@ -149,7 +149,7 @@ def try_serve(steps, folder):
     forgetful = [program(), "serve", "--tree", start]
     status, said = probe(folder, ["--look-first", "/place"], forgetful)
     steps.check("a server that forgets all between two sessions is not accepted, and a line says what to do",
-                status == 3 and "accepted" not in said and GONE in said and "Traceback" not in said, f"{status}: {said}")
+                status == 3 and "accepted" not in said and GONE in said and "Traceback" not in said, said)
     serve = [*forgetful, "--save", start]
     for words in ([], ["--shuffle", "3"]):
         status, said = probe(folder, ["--look-first", "place"], serve + words)
@@ -193,8 +193,8 @@ def try_slow(steps, folder):
 
 
 def try_locked(steps, folder):
-    """What the server's user may list and not enter is opened first, and removed: the listing of OpenSSH's server leaves
-    all names out."""
+    """What the server's user may list and not enter is opened first, and removed: OpenSSH's server lists none of its
+    names."""
     if not has_openssh(steps):
         return
     server = [SFTP_SERVER]
