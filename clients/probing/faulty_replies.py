@@ -134,6 +134,8 @@ class large_write_fails(Fault):
 class far_size_done(Statuses):
     """SETSTAT and FSETSTAT of 2^63 bytes or more are told done."""
 
+    HIDDEN_BY = ("limits",)
+
     def code(self, asked, code):
         far = asked.name in SETS and asked.fields[1].get("size", 0) >= 2 ** 63
         return sftp3.OK if far else code
@@ -141,6 +143,8 @@ class far_size_done(Statuses):
 
 class absent_is_failure(Statuses):
     """STAT and LSTAT of what is not there are answered with FAILURE."""
+
+    HIDDEN_BY = ("codes",)
 
     def code(self, asked, code):
         return sftp3.FAILURE if asked.name in LOOKS and code == sftp3.NO_SUCH_FILE else code
