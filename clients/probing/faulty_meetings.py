@@ -113,12 +113,16 @@ class directory_replaces_file(Meets):
 class slash_cannot_be_made(Refuses):
     """MKDIR of a path that ends in a slash fails."""
 
+    HIDDEN_BY = ("slash",)
+
     def refuses(self, asked):
         return asked.name == "MKDIR" and asked.fields[0].endswith(b"/") and bool(asked.fields[0].strip(b"/"))
 
 
 class empty_path_leads_nowhere(Fault):
     """A path of no bytes leads nowhere."""
+
+    HIDDEN_BY = ("slash",)
 
     def alter(self, asked):
         if asked.name != "SYMLINK" and is_path(asked, 0) and not asked.fields[0]:
@@ -152,6 +156,8 @@ class set_size_alone(Fault):
 
 class set_id_lost(Fault):
     """SETSTAT of permissions leaves out those to be run as the file's user and group."""
+
+    HIDDEN_BY = ("set-id",)
 
     def alter(self, asked):
         if asked.name == "SETSTAT" and "permissions" in asked.fields[1]:

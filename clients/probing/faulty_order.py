@@ -117,6 +117,8 @@ class remove_overtakes_link(AtNewPlace):
 class path_overtakes_rename(AtNewPlace):
     """A REALPATH of the new name is done before the RENAME that came just before it."""
 
+    HIDDEN_BY = ("realpath",)
+
     FIRST, SECOND = MOVES, ("REALPATH",)
 
 

@@ -133,6 +133,8 @@ class target_from_root(Targets):
 class path_by_text(Fault):
     """REALPATH takes `..` for the end of the name before it, also where that is a link."""
 
+    HIDDEN_BY = ("realpath",)
+
     def alter(self, asked):
         if asked.name == "REALPATH" and asked.fields[0].startswith(b"/") and b"/../" in asked.fields[0] + b"/":
             asked.fields[0] = clean(asked.fields[0])
@@ -343,6 +345,8 @@ class file_is_listed(Walks):
 class directory_is_opened(Walks):
     """OPEN of a directory to read gives a handle."""
 
+    HIDDEN_BY = ("open-dir",)
+
     def ask(self, asked):
         if asked.name == "OPEN" and asked.fields[1] == READ and self.kind_now(asked.fields[0], "STAT") == DIRECTORY:
             return [sftp3.Request(asked.number, "OPENDIR", asked.fields[:1])]
@@ -422,6 +426,8 @@ class close_restores_size(Asks):
 class read_of_nothing_ends(Reads):
     """A READ of 0 bytes before the end finds the end."""
 
+    HIDDEN_BY = ("read",)
+
     def shown(self, asked, _offset, data):
         return data if asked.fields[2] else None
 
@@ -436,6 +442,8 @@ class read_padded(Reads):
 
 class far_read_fails(Fault):
     """A READ at 2^31 or behind fails in place of finding the end."""
+
+    HIDDEN_BY = ("limits",)
 
     def answer(self, asked, reply):
         ends = asked.name == "READ" and asked.fields[1] >= FAR and sftp3.Reply(reply).code == sftp3.EOF

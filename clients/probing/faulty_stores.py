@@ -242,6 +242,8 @@ class directory_of_link_removed(Made):
 class slash_cannot_be_renamed_to(Refuses):
     """RENAME to a path that ends in a slash fails."""
 
+    HIDDEN_BY = ("slash",)
+
     def refuses(self, asked):
         return asked.name in MOVES and asked.fields[1].endswith(b"/") and bool(asked.fields[1].strip(b"/"))
 
