@@ -93,7 +93,7 @@ def wrong_scripts(prefix, room):
     yield from wrong_tree(prefix, room)
     for name in ("any", "gesftpserver", "openssh"):
         status, printed = alone([prefix / "lib/sftpv3/servers" / name], room)
-        if status != 2 or f"servers/{name} TREE" not in printed:
+        if status != 2 or f"servers/{name} [--folder FOLDER] TREE" not in printed:
             yield f"install: servers/{name} ended with status {status}: {printed}"
     if (room / "sprung").exists():
         yield "install: a script ran a module of the user's"
@@ -138,7 +138,7 @@ COMPLETED = [(["sftpv3", "aud"], "audit"), (["sftpv3-probe", "--see"], "--seeds"
              (["sftpv3", "infer", "--allow", "dots,sp"], "dots,special"), (["sftpv3", "audit", "--most", ""], ""),
              (["sftpv3-tree", "--limits", ""], "usual raised most fit"), (["sftpv3-tree", "--mode", ""], ""),
              (["sftpv3-probe", "--skip", "nul,sla"], "nul,slash"),
-             (["sftpv3-probe", "--also", ""], "large long-target"),
+             (["sftpv3-probe", "--also", ""], "large long-target two-clients"),
              (["sftpv3-probe", "--", "sftpv3", "aud"], "2: aud"), (["sftpv3-record", "t", "sftpv3", "aud"], "2: aud"),
              (["sftpv3-record", "--plain", "--log", "l", "t", "sft"], "5: sft"),
              (["sftpv3-record", "--spool", "s", "sftpv3", "aud"], "3: aud"), (["sftpv3-record", "--log", "l", "--pl"],

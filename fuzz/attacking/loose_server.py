@@ -1,5 +1,5 @@
-"""A server that makes directories without the permissions that were asked for: a session of the program, to which MKDIR
-goes without attributes.
+"""A server that makes directories without the permissions that were asked for: a session of the program, which saves
+its tree, to which MKDIR goes without attributes.
 
     loose_server.py LOG KIND PROGRAM TREE
 
@@ -38,7 +38,7 @@ def loosened(packet, log, kind):
 
 def main():
     log, kind, program, tree = sys.argv[1:]
-    with subprocess.Popen([program, "serve", "--tree", tree], stdin=subprocess.PIPE) as server:
+    with subprocess.Popen([program, "serve", "--tree", tree, "--save", tree], stdin=subprocess.PIPE) as server:
         while True:
             head = sys.stdin.buffer.read(4)
             if len(head) < 4:
