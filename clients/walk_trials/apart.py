@@ -8,7 +8,7 @@ import threading
 import time
 from contextlib import suppress
 
-from probing import below, limits, planner, servers, sessions, starting, verdicts
+from probing import below, limits, planner, restarts, servers, sessions, starting, verdicts
 from probing.program import TOP, program
 from sftp3 import trees
 from trials.other_servers import SFTP_SERVER, has_openssh
@@ -135,7 +135,9 @@ def try_openssh(steps, folder):
         with open(os.path.join(live, name), "wb") as file:
             file.write(b"theirs")
     before = picture(live)
-    status, said = probe(folder, ["--look-first", os.path.join(live, "place"), *POSIX], [SFTP_SERVER])
+    # a refused SETSTAT of which it does a part shows also in what it left
+    words = ["--look-first", os.path.join(live, "place"), "--skip", "size-and-more", *POSIX]
+    status, said = probe(folder, words, [SFTP_SERVER])
     steps.check("OpenSSH's server: sessions are judged", status in (0, 1) and "2 sessions" in said, said[-2000:])
     steps.check("the files of others are as they were, and nothing is left", picture(live) == before)
     steps.check("what is found is what this server is known for", all(
@@ -185,7 +187,7 @@ def try_slow(steps, folder):
     os.mkdir(live)
     server, halt = servers.Server(misbehaving("slow-removal", [SFTP_SERVER])), limits.Halt()
     worker = below.Worker(folder, server, verdicts.Auditor(program(), folder, POSIX), PROMPT,
-                          below.Place(server, os.fsencode(live), PROMPT, halt))
+                          restarts.Restarts(False, PROMPT), below.Place(server, os.fsencode(live), PROMPT, halt))
     with suppress(sessions.Stopped):
         worker.play(starting.few(), [], 1, 1, limits.Until(halt, 3))
     steps.check("a server that removes slowly is left without files of the probe", not os.listdir(live),
