@@ -199,6 +199,13 @@ def lacks_owner(difference):
     return "without owner" in plain_key(difference)[3]
 
 
+def shown_otherwise(found):
+    """The attributes that are said to differ, if they are all that does: `ATTRS with another user, another group`."""
+    words = found.removesuffix(AGAIN).rpartition(" with ")[2].split(", ")
+    names = {another(name): name for _, name in FIELDS}
+    return {names[word] for word in words} if all(word in names for word in words) else set()
+
+
 def of_data(expected, found):
     lengths = [number(text, "length") for text in (expected, found)]
     if not found.startswith("DATA") or None in lengths:

@@ -7,7 +7,7 @@ So a wrong order of SYMLINK's paths is not named where the session has others th
 import os
 
 import sftp3
-from probing import verdicts
+from probing import groups, lacking, verdicts
 from sftp3 import trees
 
 # The most seconds that all of this takes.
@@ -15,6 +15,9 @@ SECONDS = 20
 
 # The departures that `posix-user` has, and `posix` has not.
 OF_USERS = {"denied", "full"}
+
+# From how many kinds of difference on it is said that a server may lack what they show.
+MANY_ALIKE = 3
 
 # The values that are tried, of options that say how new files and directories are made.
 MADE = [("--umask", value) for value in ("000", "002", "022", "027", "077")] + \
@@ -90,21 +93,40 @@ def departures(group):
     return {*found, *(["made"] if "--allow made" in group.accepted_with else [])}
 
 
-def advice(groups, auditor):
+def advice(found, auditor):
+    """What to say of the groups that were found, if other options may suit the server."""
+    said = [of_profile(found, auditor), of_lacking(found)]
+    return [line for line in said if line]
+
+
+def of_profile(found, auditor):
     """What to say of a strict audit whose differences are mostly departures of a profile; None if there is nothing."""
-    found = [names for names in map(departures, groups) if names]
-    if not found or "--profile" in pairs_of(auditor.options):
+    known = [names for names in map(departures, found) if names]
+    if not known or "--profile" in pairs_of(auditor.options):
         return None
-    profile = "posix-user" if all(names <= OF_USERS for names in found) else "posix"
-    kinds = f"{len(found)} of {len(groups)} kinds are" if len(groups) > 1 else "it is"
+    profile = "posix-user" if all(names <= OF_USERS for names in known) else "posix"
+    kinds = f"{len(known)} of {len(found)} kinds are" if len(found) > 1 else "it is"
     return f"{kinds} accepted with --profile {profile}, which servers with real file systems need: play again with it"
 
 
-def put_hints(groups, auditor, tree, folder, stop):
+def of_lacking(found):
+    """What to say where many groups show nothing but other owners or permissions than were set, as a server does that
+    has none of its own; None if there are not so many, or if options of a profile would accept them."""
+    shown = [groups.shown_otherwise(group.found) for group in found
+             if not departures(group) and not group.accepted_with]
+    for name, attributes in lacking.SHOWN.items():
+        count = sum(bool(names) and names <= attributes for names in shown)
+        if count >= MANY_ALIKE and 2 * count >= len(found):
+            return (f"{count} of {len(found)} kinds show nothing but other {name}: if your server has none of its own, "
+                    f"play again with --without {name}")
+    return None
+
+
+def put_hints(found, auditor, tree, folder, stop):
     """Puts into each group the options that would accept its first reply, until `stop` is set: then Stopped is
     raised."""
     tree_file = os.path.join(folder, "hinted.tree")
-    for group in groups:
+    for group in found:
         with open(tree_file, "wb") as file:
             file.write(group.first.session.start or trees.put(tree))
         group.accepted_with = of_difference(group.first, auditor, tree_file, stop)

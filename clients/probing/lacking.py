@@ -13,6 +13,9 @@ OWNERS, PERMISSIONS = NAMES = "owners", "permissions"
 # The attributes of requests that are left out.
 FIELDS = {OWNERS: "owner", PERMISSIONS: "permissions"}
 
+# What differs in replies of a server that lacks it, by the words of `groups.FIELDS`.
+SHOWN = {OWNERS: {"user", "group"}, PERMISSIONS: {"permissions"}}
+
 # The requests whose replies show attributes that are judged.
 SHOWING = ("STAT", "LSTAT", "FSTAT", "READDIR")
 

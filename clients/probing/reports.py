@@ -19,9 +19,9 @@ from recording import ways
 from sftp3 import trees
 
 
-def keep_server(place, difference):
-    """Writes into the folder what the server wrote to standard error, how it ended, and the whole session, if the one
-    that was judged lacks some of it."""
+def keep_server(place, difference, lacking):
+    """Writes into the folder what the server wrote to standard error, how it ended, what it was said to lack, and the
+    whole session, if the one that was judged lacks some of it."""
     session = difference.session
     files.write(os.path.join(place, "standard-error.txt"), session.errors)
     files.write_text(os.path.join(place, "server.txt"),
@@ -29,6 +29,7 @@ def keep_server(place, difference):
                      f"in pieces: {'no' if session.cut is None else 'yes'}\n"
                      f"started again: {started_again(difference)}\n"
                      f"clients: {'two' if session.is_together else 'one'}\n"
+                     f"without: {','.join(lacking) or 'nothing'}\n"
                      f"session: {session.end or 'each request had its reply'}\nended: {session.ending()}\n")
     whole = os.path.join(place, "whole.transcript")
     if session.records != difference.records:
@@ -50,12 +51,12 @@ def text_of(judge, name):
     return done.stdout.decode(errors="replace")
 
 
-def keep(judge, folder, number, group, kept):
+def keep(judge, given, number, group, kept):
     """Keeps the tree, the transcript, their texts and the reason of a group in a folder of its own."""
     name = re.sub(r"[^a-z0-9]+", "-", f"{group.request} {group.found}".lower()).strip("-")[:50].strip("-")
-    place = os.path.join(files.held(folder), f"{number:02}-{name}")
+    place = os.path.join(files.held(given.keep), f"{number:02}-{name}")
     files.folder(place)
-    keep_server(place, kept.difference)
+    keep_server(place, kept.difference, given.without)
     files.write(os.path.join(place, "start.tree"), kept.difference.session.start or trees.put(kept.tree))
     files.write(os.path.join(place, "session.transcript"), sftp3.put_records(kept.difference.records))
     texts = {kind: text_of(judge, os.path.join(place, kind)) for kind in ("start.tree", "session.transcript")}

@@ -286,7 +286,7 @@ class Run:
     def keep(self, group):
         """Keeps the session of a group."""
         shown = group.shortest or shrinking.Shown(group.steps, self.tree, group.first)
-        group.kept = reports.keep(self.program, self.given.keep, group.number, group, shown)
+        group.kept = reports.keep(self.program, self.given, group.number, group, shown)
 
     def write(self, found):
         """Keeps what was found, and writes the report. Gives what could not be written, as errors."""
@@ -310,8 +310,7 @@ class Run:
         wrong = self.write(found)
         for group in found:
             reports.print_group(group.number, group)
-        advice = hints.advice(found, self.auditor)
-        if advice:
+        for advice in hints.advice(found, self.auditor):
             program.tell(f"probe: {advice}")
         vain = len(self.tally.played) - self.tally.sessions
         if vain:
