@@ -5,6 +5,7 @@
 runs the command, a sound server on files that others change, too, and stands between it and its client. Each session
 keeps what it knows of the files, until it changes something itself. So with one client no reply is other than right.
 """
+import collections
 import os
 import sys
 
@@ -60,6 +61,34 @@ class bytes_kept(sound):
     """A READ gives what one of the same path and place gave before, until the session itself changes something."""
 
     KEPT = ("READ",)
+
+
+class links_kept(sound):
+    """READLINK of a path gives what it gave before, until the session itself changes something."""
+
+    KEPT = ("READLINK",)
+
+
+class names_kept(sound):
+    """A listing of a path gives what an earlier one gave, until the session itself changes something."""
+
+    KEPT = ("READDIR",)
+
+    def __init__(self):
+        super().__init__()
+        # how many replies each listing had
+        self.turns = collections.Counter()
+
+    def requests(self, packets):
+        super().requests(packets)
+        for packet in packets:
+            asked = sftp3.decode(packet)
+            if asked.name == "READDIR":
+                self.keys[asked.number] += (self.turns[asked.handle()],)
+                self.turns[asked.handle()] += 1
+            elif asked.name == "CLOSE":
+                self.turns.pop(asked.handle(), None)
+        return packets
 
 
 class absence_kept(sound):

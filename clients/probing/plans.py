@@ -41,6 +41,11 @@ class Unlike:
         return given + b"\0" if len(given) < LONGEST_HANDLE else given[:-1] + bytes([given[-1] ^ 0x80])
 
 
+def renumbered(field, numbers):
+    """A field, with the new number of the step of which it has the handle."""
+    return type(field)(numbers[opener(field)]) if isinstance(field, (Handle, Unlike)) else field
+
+
 def opener(handle):
     """The number of the step whose reply has the bytes that this one begins with, or None."""
     return getattr(handle, "step", getattr(handle, "like", None))

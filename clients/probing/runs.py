@@ -7,7 +7,7 @@ from typing import List, Optional
 
 from paging import document
 from probing import (below, features, groups, hints, lacking, lasting, limits, options, ownfiles, planner, plans,
-                     program, reports, restarts, sessions, shrinking, starting, verdicts)
+                     program, reports, restarts, sessions, shrinking, starting, together, verdicts)
 from probing.sessions import NotStarted
 from sftp3 import trees
 from walking import bounds
@@ -227,6 +227,8 @@ class Run:
     def planned(self, seed, skip):
         """The steps of a seed, and those that look, where that can be, at what they leave."""
         steps = planner.plan(seed, self.tree, self.given.requests, skip)
+        if features.TOGETHER in self.given.also:
+            steps = together.dealt(steps, seed)
         return lasting.lasting(steps, self.tree, skip) if self.again.is_wanted else steps
 
     def play(self):

@@ -2,9 +2,73 @@
 before has its reply. So what the one changes, the other has to see, and the audit judges both as one session.
 
 A handle is used on the connection that opened it, and its name in the record is another one if that is the second: two
-servers may give the same bytes. What has no handle goes by the first if its id is odd, else by the second.
+servers may give the same bytes. What has no handle goes by the first if its id is odd, else by the second. In a third of
+the sessions the ids are those of the plan. In the others they are dealt: in one third, what one client has looked at,
+the other one changes in most cases, and the first looks again; in another, one client makes all changes.
 """
+import copy
+import posixpath
+
+import sftp3
 from probing import plans, servers, sessions
+
+# Of so many requests that have no handle, one goes by either client, whoever looked before.
+EITHER = 5
+
+
+def dealt(steps, seed):
+    """These steps with the ids by which those of this seed go to the one client or the other."""
+    if seed % 3 == 0:
+        return steps
+    lookers, numbers, found = {}, {}, []
+    for step in steps:
+        client = client_of(step, lookers) if seed % 3 == 1 else int(changes(step))
+        last = found[-1].number if found else steps[0].number - 1
+        # an odd id is of the first client: the next id, or the one after it
+        number = (last + 1 + (last + client) % 2) % plans.IDS
+        numbers[step.number] = number
+        found.append(renumbered(step, number, numbers))
+    return found
+
+
+def client_of(step, lookers):
+    """Which client asks, 0 or 1: one that looks is the one that looked before, one that changes something the other.
+    `lookers` has who looked at a path."""
+    either = 1 - step.number % 2
+    if step.handle() is not None:
+        return either
+    paths = [clean(path) for path in paths_of(step)]
+    known = [lookers[path] for path in [*paths, *map(posixpath.dirname, paths)] if path in lookers]
+    if changes(step):
+        return 1 - known[0] if known and step.number % EITHER else either
+    if not known or step.number % EITHER == 0:
+        lookers.update(dict.fromkeys(paths, either))
+        return either
+    return lookers.setdefault(paths[0], known[0])
+
+
+def paths_of(step):
+    """The paths of a request without a handle; not the target of a link, which may lead anywhere."""
+    return [field for name, field in zip(sftp3.REQUESTS[step.name][1].split(), step.fields)
+            if name in ("path", "new_path", "link")]
+
+
+def changes(step):
+    """Whether the request may change something."""
+    return step.name not in sftp3.LOOKERS and step.name != "OPENDIR" and not (step.name == "OPEN" and
+                                                                              step.fields[1] == sftp3.READ)
+
+
+def clean(path):
+    """The path without what a text may have twice, as far as no link is in it."""
+    return posixpath.normpath(b"/" + path.lstrip(b"/"))
+
+
+def renumbered(step, number, numbers):
+    """The step with this id, and with the new ids of the steps whose handles it has."""
+    found = copy.copy(step)
+    found.number, found.fields = number, [plans.renumbered(field, numbers) for field in step.fields]
+    return found
 
 
 class Other(sessions.Player):
