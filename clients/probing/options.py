@@ -178,19 +178,19 @@ def add_of_plans(add):
     add("--in-flight", metavar="K", type=flying,
         help=f"the most requests without a reply ({ONE} for odd seeds, {MANY} for even ones, {MOST} for each tenth)")
     add("--pieces", metavar="N", type=count, default=PIECES,
-        help=f"of how many sessions one has a fourth of its requests sent in pieces ({PIECES}); 0: in none")
+        help=f"send a fourth of the requests in pieces in each N-th session ({PIECES}); 0: in none")
     add("--skip", metavar="NAME,...", type=names_among(SKIPPED), default=[], help="what to leave out of the plans")
     add("--also", metavar="NAME,...", type=names_among(features.ALSO), default=[],
-        help="what to plan besides: large, long-target, for which a server has room, and the tree may not; and "
-             "two-clients, which have each session together, one request after the other")
+        help="what else to plan: large, long-target, for which a server may have room, and the tree not; and "
+             "two-clients, which play each session together, one request at a time")
     add("--without", metavar="NAME,...", type=names_among(lacking.NAMES), default=[],
-        help="what the server does not have: owners, permissions. None are set, and those that it shows are not judged")
+        help="what the server does not have: owners, permissions; none are set, and those that it shows not judged")
     add("--session", metavar="FILE", help="play the requests of this transcript, not those of seeds")
     add("--start-again", metavar="N", type=positive,
         help="start the server again on the same files before the N-th request of --session")
     add("--look-first", metavar="PLACE", type=os.fsencode,
-        help="play each session below a directory that it makes below this place, and judge it by the tree that was "
-             "seen; behind it the directory is removed")
+        help="play each session in a directory that it makes below this place and removes in the end, and judge it "
+             "by the tree that was seen there")
 
 
 def add_of_run(add):
@@ -201,7 +201,7 @@ def add_of_run(add):
         help=f"seconds to wait for a reply ({sessions.TIMEOUT}), and {sessions.OPENING} times as long for VERSION")
     add("--patience", metavar="S", type=seconds, help="seconds after which no more is played (no limit)")
     add("--budget", metavar="S", type=pause, default=shrinking.BUDGET,
-        help=f"seconds for all shrinking ({shrinking.BUDGET}); 0: none is shrunk")
+        help=f"seconds to shrink all differences ({shrinking.BUDGET}); 0: shrink none")
     add("--first", action="store_true", help="play no more seeds once there is a difference")
     add("--keep", metavar="FOLDER", default="probe-kept",
         help="where to keep shrunk sessions; while another run keeps some there, FOLDER.2, ... (probe-kept)")

@@ -2,9 +2,9 @@
 before has its reply. So what the one changes, the other has to see, and the audit judges both as one session.
 
 A handle is used on the connection that opened it, and its name in the record is another one if that is the second: two
-servers may give the same bytes. What has no handle goes by the first if its id is odd, else by the second. In a third of
-the sessions the ids are those of the plan. In the others they are dealt: in one third, what one client has looked at,
-the other one changes in most cases, and the first looks again; in another, one client makes all changes.
+servers may give the same bytes. What has no handle goes by the first if its id is odd, else by the second. In a third
+of the sessions the ids are those of the plan. In the others they are dealt: in one third, what one client has looked
+at, the other one changes in most cases, and the first looks again; in another, one client makes all changes.
 """
 import copy
 import posixpath

@@ -42,8 +42,8 @@ after wrong usage, 3 if a record that is required cannot be made or memory runs 
 DAEMON_NOTES = """\
 Started by systemd, it takes the socket that systemd opened; otherwise it makes SOCKET. The records of a user are in a
 folder of that user's name, as TIME-ADDRESS-PROCESS.transcript: the user and the process are those that connected, as
-the system knows them; the address is what the recorder says. SIZE is a number of bytes, or one with K, M, G or T
-behind."""
+the system knows them; the address is what the recorder says. SIZE is a number of bytes, or one that ends in K, M, G or
+T."""
 
 
 def size(text):
