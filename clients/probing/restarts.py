@@ -41,13 +41,13 @@ class Restarts:
             self.is_wanted = self.is_wanted and not for_good and self.failed < MOST_FAILED
         if is_first:
             first, *said = why.split("\n")
-            program.tell(f"probe: whether what a session leaves lasts could not be looked at: {first}")
+            program.tell(f"probe: could not check that what a session leaves lasts: {first}")
             for line in said:
                 program.tell(f"  {line.strip()}")
 
     def told(self):
         """What the last line of the run says."""
-        return f"; in {self.done} sessions alone it was looked at whether what they left lasts" if self.failed else ""
+        return f"; what lasts was checked in {self.done} sessions only" if self.failed else ""
 
 
 def left_open(records):
@@ -78,7 +78,7 @@ def play(server, tree_file, steps, in_flight, timeout, stop, cut, restarts):
     else:
         session = sessions.play(server, tree_file, before, in_flight, timeout, stop, cut, parting)
     if behind and session.status is None and session.end is None:
-        restarts.fail(f"the server does not end within {parting:g} seconds once its input has", for_good=True)
+        restarts.fail(f"the server does not end within {parting:g} seconds after its input has", for_good=True)
     elif behind and session.is_over():
         go_on(session, server, tree_file, behind, timeout, stop, restarts)
     return session

@@ -100,7 +100,7 @@ def read_options(words):
     if rest[:1] == ["--"]:
         rest.pop(0)
     if not rest or rest[0].startswith("--") or (options.transcript or "").startswith("--"):
-        complain("TRANSCRIPT and COMMAND are needed, or --spool SOCKET and COMMAND, behind the options")
+        complain("TRANSCRIPT and COMMAND are needed, or --spool SOCKET and COMMAND, after the options")
     of_audit = [it for it in (*AUDIT_VALUES, *AUDIT_FLAGS, "--stop", "--program") if value_of(options, it)]
     if of_audit and not options.audit:
         complain(f"{of_audit[0]} is an option of --audit")

@@ -190,7 +190,7 @@ class Session:
         return bytes(self.running.said).decode(errors="replace").splitlines()[-5:]
 
     def take_last(self):
-        """Takes what came while the server ended: behind its last reply nothing should."""
+        """Takes what came while the server ended: after its last reply nothing should."""
         found = list(iter(self.streams.next_packet, None))
         self.count(found)
         if found:
@@ -199,7 +199,7 @@ class Session:
             self.take(packet)
         rest = len(self.streams.arrived)
         if rest:
-            raise Misbehaves(f"the server sent {rest:,} bytes behind its last reply that are no packet")
+            raise Misbehaves(f"the server sent {rest:,} bytes after its last reply that are no packet")
 
 
 def check(packet):
