@@ -1,8 +1,9 @@
 //! The subcommands `import` and `export`: an archive as a tree file, and a tree file as an archive.
-ghost use Rattle.std.specs.Prelude.{◌≡◌, IfOk, OnOk};
+ghost use Rattle.std.specs.Prelude.{◌≡◌, IfErr, IfOk, OnOk};
 ghost use Rattle.std.specs.Io.KnownBytes.{Appends};
 ghost use Rattle.sftp_treefile.specs.TreeFile.{IsTreeFile};
 ghost use Rattle.sftp_tar.specs.Archive.{archive};
+ghost use Rattle.sftp_files.specs.Failures.{IsUsage};
 ghost use Rattle.sftp_files.specs.declared.messages.Ending.TheVariants as endings;
 
 use crate::faulty::{Found, START};
@@ -10,7 +11,7 @@ use crate::trees::rows_in_view;
 use crate::twice::spare_input;
 use sftp_files::{
     Content, Ending, Failure, FileSink, ImportOptions, Keeping, Meter, STANDARD_INPUT,
-    STANDARD_OUTPUT, System, Watched, write_content, write_flushed,
+    STANDARD_OUTPUT, System, Watched, require_fit, write_content, write_flushed,
 };
 use sftp_progress::{Console, Progress, Task, Tracked};
 use sftp_show::Quoted;
@@ -27,10 +28,32 @@ use std::marker::Model;
 use std::time::Clock;
 use std::{fmt, io};
 
-/// Writes the tree file of the archive on standard input, which is read an entry at a time. The archive is judged
-/// before the file is written. Standard error names the devices and FIFOs that are passed over, or in whose place are
-/// empty files.
-pub fn import<'a, R: System + Clock, I: Read, E: Write + IsTerminal>(
+/// The message where no archive can come.
+const NO_ARCHIVE: &str =
+    "standard input is a terminal; give it an archive: tar -C FOLDER -c . | sftpv3 import FILE";
+
+/// Lets a run go on unless standard input is a terminal, where nobody types an archive.
+///
+/// # Errors
+///
+/// `Usage` if it is one.
+fn require_archive<'a, R: AllocGlobal, I: IsTerminal>(
+    rt: &R,
+    input: &I,
+) -> Result<(), Failure<'a>>
+    ensures { IfErr result IsUsage }
+{
+    if input.is_terminal() {
+        Err(Failure::of_misuse(rt.alloc(), NO_ARCHIVE))
+    } else {
+        Ok(())
+    }
+}
+
+/// Writes the tree file of the archive on standard input, which is read an entry at a time. Nothing is read if the file
+/// cannot be written. The archive is judged before the file is written. Standard error names the devices and FIFOs that
+/// are passed over, or in whose place are empty files.
+pub fn import<'a, R: System + Clock, I: Read + IsTerminal, E: Write + IsTerminal>(
     rt: &R,
     options: &ImportOptions<'a>,
     input: &mut I,
@@ -39,6 +62,8 @@ pub fn import<'a, R: System + Clock, I: Read, E: Write + IsTerminal>(
     ensures { IfOk result (λ ending. ending ≡ endings.Done) }
 {
     spare_input(rt, options.file)?;
+    require_archive(rt, &*input)?;
+    require_fit(rt, options.file)?;
     let mut meter = Meter::new(rt, options.memory)?;
     let imported = taken_in_view(rt, options.taking, &mut meter, input, console);
     drop(meter);

@@ -43,7 +43,7 @@ pub fn run<R, I, O, E>(
 ) -> u8
 where
     R: System + Clock,
-    I: Read,
+    I: Read + IsTerminal,
     O: Write,
     E: Write + IsTerminal,
     ensures { result ≤ 3 }
@@ -62,7 +62,7 @@ pub fn run_versioned<R, I, O, E>(
 ) -> u8
 where
     R: System + Clock,
-    I: Read,
+    I: Read + IsTerminal,
     O: Write,
     E: Write + IsTerminal,
     ensures { result ≤ 3 }
@@ -78,7 +78,7 @@ where
     }
 }
 
-fn perform<'a, R: System + Clock, I: Read, O: Write, E: Write + IsTerminal>(
+fn perform<'a, R: System + Clock, I: Read + IsTerminal, O: Write, E: Write + IsTerminal>(
     rt: &R,
     version: &'a str,
     words: &'a [String],
@@ -162,7 +162,7 @@ fn spot_of_request<R: Files + AllocGlobal>(
 }
 
 /// Does what is asked for. While it reads or writes what may be long, standard error says how far it is.
-fn perform_request<'a, R: System + Clock, I: Read, O: Write, E: Write + IsTerminal>(
+fn perform_request<'a, R: System + Clock, I: Read + IsTerminal, O: Write, E: Write + IsTerminal>(
     rt: &R,
     request: &Request<'a>,
     input: &mut I,
