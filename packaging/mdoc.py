@@ -31,7 +31,8 @@ def escaped(line):
 
 def filled(text):
     """Returns the lines of a text, each sentence on lines of its own."""
-    return [escaped(line) for it in re.split(r"(?<=[.?!]) +(?=\S)", text) for line in textwrap.wrap(it, 64)]
+    return [escaped(line) for it in re.split(r"(?<=[.?!]) +(?=\S)", text)
+            for line in textwrap.wrap(it, 64, break_on_hyphens=False)]
 
 
 def sentence(text):
