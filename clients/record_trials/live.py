@@ -8,12 +8,12 @@ import subprocess
 import time
 
 from record_trials.ends import whole
-from record_trials.failing import limited, run
+from record_trials.failing import run
 from record_trials.steps import INIT, PROGRAM, STUB, close, errors, open_session, receive
 from recording import naming
 from recording.options import AUDIT_FLAGS, AUDIT_VALUES, audit_words, plainly_read
 from sftp3 import request, trees
-from trials.processes import SOON, ended, executable, wait_until
+from trials.processes import SOON, ended, executable, limited, wait_until
 
 LINE = "audit: refused record 8: UnknownReply"
 
@@ -90,7 +90,7 @@ def long_trees(steps, room):
     tree = room.folder / "long.tree"
     trees.write(trees.Tree([trees.Entry(b"/f", trees.FILE, bytes(3000))]), str(tree))
     process = room.stub("t", options=["--audit", "--program", PROGRAM, "--tree", tree, "--out", "out", "--log", "log"],
-                        preexec_fn=lambda: resource.setrlimit(resource.RLIMIT_FSIZE, (2048, 2048)))
+                        preexec_fn=limited(resource.RLIMIT_FSIZE, 2048))
     open_session(process)
     process.stdin.write(request(1, "MKDIR", b"/a", {}))
     receive(process, 21)

@@ -12,7 +12,7 @@ from pathlib import Path
 import sftp3
 from record_trials.steps import INIT, STUB, TOP, close, errors, open_session, receive
 from sftp3 import request
-from trials.processes import SOON, ended, executable, make_user, remove_user, wait_until
+from trials.processes import SOON, ended, executable, make_user, remove_user, run, wait_until
 
 DAEMON = os.environ.get("RECORDD", str(TOP / "clients/recordd"))
 OTHER = "sftpv3-trial"
@@ -276,8 +276,7 @@ def units(steps, room):
             (room.folder / unit.name).write_text(unit.read_text().replace("@BIN@", str(room.folder)))
             if made[-1].name != unit.name:
                 made[-1].symlink_to(unit.name)
-    ran = subprocess.run([words, "verify", "--man=no", *made], stdout=subprocess.PIPE, stderr=subprocess.STDOUT,
-                         text=True, check=False)
+    ran = run([words, "verify", "--man=no", *made])
     ours = [it for it in ran.stdout.splitlines() if "sftpv3" in it]
     steps.check("systemd-analyze verifies the units", ran.returncode == 0 and not ours and len(made) == 4, ran.stdout)
 

@@ -1,16 +1,15 @@
 """Starts recorders, and speaks to them."""
 import os
 import subprocess
-import sys
 import tempfile
 from pathlib import Path
 
-TOP = Path(__file__).resolve().parents[2]
-sys.path.insert(0, str(TOP / "clients"))
 import sftp3
+from probing import program
 from recording import temporary
 from trials import sessions
 
+TOP = Path(program.TOP)
 RECORD = os.environ.get("RECORD", str(TOP / "clients/record"))
 STUB = str(TOP / "clients/record_trials/stub.py")
 PROGRAM = os.environ.get("SFTPV3", str(TOP / "out/sftpv3"))

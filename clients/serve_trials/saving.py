@@ -5,7 +5,8 @@ import signal
 import subprocess
 
 from serve_trials.steps import PROGRAM, SIGNALS
-from trials.processes import make_user, remove_user
+from trials.disks import fill, small_disk
+from trials.processes import limited, make_user, remove_user
 
 USER = "sftpv3-served"
 
@@ -151,26 +152,22 @@ def full_disk(steps, room):
         steps.skip("a full disk", "it needs root")
         return
     small = room.folder / "small"
-    small.mkdir()
-    if subprocess.run(["mount", "-t", "tmpfs", "-o", "size=1m", "none", small], capture_output=True).returncode:
-        steps.skip("a full disk", "there can be no mounts here")
-        return
-    try:
-        on_a_full_disk(steps, room, small)
-    finally:
-        subprocess.run(["umount", "-l", small], check=True)
+    with small_disk(small, "1m") as is_there:
+        if not is_there:
+            steps.skip("a full disk", "there can be no mounts here")
+            return
+        try:
+            on_a_full_disk(steps, room, small)
+        finally:
+            # a disk in use stays
+            room.end_servers()
 
 
 def on_a_full_disk(steps, room, small):
     before = (room.folder / "t").read_bytes()
     (small / "t").write_bytes(before)
     (small / "filling").write_bytes(bytes((1 << 20) - 8192))
-    with open(small / "rest", "wb", 0) as rest:
-        try:
-            while True:
-                rest.write(bytes(1024))
-        except OSError:
-            pass
+    fill(small / "rest")
     server = room.serve("--save", "small/t", "--log", "log")
     steps.check("a full disk: status 3 before the session", not server.open() and server.status() == 3)
     said = (room.folder / "log").read_text() if (room.folder / "log").exists() else server.errors()
@@ -179,12 +176,7 @@ def on_a_full_disk(steps, room, small):
     server = room.saving(save="small/t")
     handle = server.create("/f")
     server.ask("WRITE", handle, 0, bytes(30_000))
-    with open(small / "filling", "wb", 0) as filling:
-        try:
-            while True:
-                filling.write(bytes(1024))
-        except OSError:
-            pass
+    fill(small / "filling")
     status = finish(server)
     said = server.errors()
     steps.check("a disk that fills up meanwhile: status 3, and why", status == 3 and "No space left" in said,
@@ -275,7 +267,7 @@ def few_descriptors(steps, room):
     """Where the system does not let a session begin, nothing is left beside the file of --save."""
     for count in range(5, 16):
         server = room.serve("--save", "saved", "--log", "log", kind="pipes",
-                            preexec_fn=lambda: resource.setrlimit(resource.RLIMIT_NOFILE, (count, count)))
+                            preexec_fn=limited(resource.RLIMIT_NOFILE, count))
         server.close_input()
         status, said = server.status(), server.errors()
         begun = ["saved"] if status in (0, 1) else []

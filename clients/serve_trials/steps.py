@@ -5,20 +5,18 @@ import shutil
 import signal
 import socket
 import subprocess
-import sys
 import tarfile
 import tempfile
 from pathlib import Path
 
-TOP = Path(__file__).resolve().parents[2]
-sys.path.insert(0, str(TOP / "clients"))
 import sftp3
-from probing.program import program
+from probing import program
 from recording import temporary
 from trials.processes import SOON, children_of, ended, kill
 from trials.sessions import Client
 
-PROGRAM = program()
+TOP = Path(program.TOP)
+PROGRAM = program.program()
 # what is tried, as words: `SERVE="FILE serve"` tries the program without the script
 SERVE = os.environ["SERVE"].split() if "SERVE" in os.environ else [str(TOP / "clients/serve"), "--program", PROGRAM]
 IS_PLAIN = "SERVE" in os.environ
