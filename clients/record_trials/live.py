@@ -42,6 +42,15 @@ def make_three(process):
         receive(process, 21)
 
 
+def make_one(process, name=b"/a"):
+    """Asks for a directory, and goes away. Returns the recorder's status."""
+    open_session(process)
+    process.stdin.write(request(1, "MKDIR", name, {}))
+    receive(process, 21)
+    close(process.stdin)
+    return ended(process, SOON)
+
+
 def says_soon(room, text):
     return wait_until(lambda: text in log(room))
 
@@ -76,11 +85,7 @@ def stopped(steps, room):
 
 def accepted(steps, room):
     process = audited(room, options=["--stop"])
-    open_session(process)
-    process.stdin.write(request(1, "MKDIR", b"/a", {}))
-    receive(process, 21)
-    close(process.stdin)
-    steps.check("a right session: status 0", ended(process, SOON) == 0)
+    steps.check("a right session: status 0", make_one(process) == 0)
     steps.check("a right session: the log has the verdict, standard error nothing",
                 "audit: accepted 1 requests" in log(room) and errors(process) == "", log(room))
 
@@ -91,11 +96,7 @@ def long_trees(steps, room):
     trees.write(trees.Tree([trees.Entry(b"/f", trees.FILE, bytes(3000))]), str(tree))
     process = room.stub("t", options=["--audit", "--program", PROGRAM, "--tree", tree, "--out", "out", "--log", "log"],
                         preexec_fn=limited(resource.RLIMIT_FSIZE, 2048))
-    open_session(process)
-    process.stdin.write(request(1, "MKDIR", b"/a", {}))
-    receive(process, 21)
-    close(process.stdin)
-    ended(process, SOON)
+    make_one(process)
     steps.check("a last tree that is longer than a file may be: the log says so",
                 "ended with status 3: sftpv3: cannot write out" in log(room) and "File too large" in log(room),
                 log(room))
@@ -231,11 +232,8 @@ def chained(steps, room):
     for number in (1, 2):
         process = room.stub("t", options=["--audit", "--overwrite", "--program", PROGRAM, "--tree", "%u.tree", "--out",
                                           "%u.tree", "--log", "log"])
-        open_session(process)
-        process.stdin.write(request(1, "MKDIR", b"/a" if number == 1 else b"/b", {}))
-        receive(process, 21)
-        close(process.stdin)
-        steps.check(f"--out: session {number} ends", ended(process, SOON) == 0, errors(process))
+        status = make_one(process, b"/a" if number == 1 else b"/b")
+        steps.check(f"--out: session {number} ends", status == 0, errors(process))
     steps.check("--out: both are accepted", log(room).count("audit: accepted 1 requests") == 2, log(room))
     shown = subprocess.run([PROGRAM, "show", tree], stdout=subprocess.PIPE, text=True, check=False).stdout
     steps.check("--out: the tree has what both made", '"/a"' in shown and '"/b"' in shown, shown)
