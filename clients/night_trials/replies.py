@@ -5,8 +5,7 @@ import time
 import sftp3
 from night_trials.place import ENDS_WELL, OLD, environment, rewrite
 from record_trials.steps import TOP
-from walk_trials.faults import BETWEEN
-from walk_trials.walks import make_live
+from walk_trials.runs import BETWEEN, make_live
 
 # What a night says of a session in which a request has no reply. A record does not have why.
 ENDS_BEFORE = "the record ends before the server's reply to 1 request"

@@ -8,6 +8,7 @@ import sftp3
 from probing import program
 from recording import temporary
 from trials import sessions
+from trials.processes import SOON, ended
 
 TOP = Path(program.TOP)
 RECORD = os.environ.get("RECORD", str(TOP / "clients/record"))
@@ -50,6 +51,12 @@ class Room:
         """Starts the recorder with the stub as its server."""
         return self.start(*options, transcript, STUB, *words, **more)
 
+    def session(self, transcript, *words, **more):
+        """The same, with a session that is open."""
+        process = self.stub(transcript, *words, **more)
+        open_session(process)
+        return process
+
     def read(self, name):
         return (self.folder / name).read_bytes()
 
@@ -83,6 +90,12 @@ def open_session(process):
     """Sends an INIT and awaits the stub's VERSION."""
     process.stdin.write(INIT)
     return receive(process, 9)
+
+
+def leave(process):
+    """The client goes away. Returns the recorder's status, or None if it does not end soon."""
+    close(process.stdin)
+    return ended(process, SOON)
 
 
 def errors(process):

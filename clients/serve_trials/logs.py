@@ -79,8 +79,7 @@ def logs_of_others(steps, room):
 def full_log(steps, room):
     """A log that takes no more: the session goes on, and its lines go to standard error."""
     os.symlink("/dev/full", room.folder / "unused")
-    server = room.saving("--verbose", "--log", "/dev/full")
-    server.make("/a")
+    server = room.working("--verbose", "--log", "/dev/full")
     status = finish(server)
     said = server.errors()
     steps.check("a log that is full: the tree is saved, and the lines are on standard error", status == 0 and

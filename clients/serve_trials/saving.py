@@ -82,8 +82,7 @@ def another_file(steps, room):
 
 
 def changed_meanwhile(steps, room):
-    server = room.saving()
-    server.make("/a")
+    server = room.working()
     (room.folder / "t").write_bytes((room.folder / "t").read_bytes() + b"x")
     finish(server)
     steps.check("a file that was changed in place is not replaced", room.names("t.2") == ["/a"] and
@@ -109,8 +108,7 @@ def links(steps, room):
     (room.folder / "d").mkdir()
     (room.folder / "t").rename(room.folder / "d/real")
     (room.folder / "t").symlink_to("d/real")
-    server = room.saving()
-    server.make("/a")
+    server = room.working()
     finish(server)
     steps.check("a link: the file that it leads to is replaced", (room.folder / "t").is_symlink() and
                 room.names("d/real") == ["/a"] and os.listdir(room.folder / "d") == ["real"])
@@ -206,8 +204,7 @@ def other_users(steps, room):
         said = (room.folder / "log").read_text() if (room.folder / "log").exists() else ""
         steps.check("a file of another user in a folder of all: the log says so", "cannot write" in said, said)
         os.chmod(room.folder, 0o777)
-        server = room.saving(**more)
-        server.make("/a")
+        server = room.working(**more)
         status = finish(server)
         steps.check("a file of another user that may be replaced: it is", status == 0 and room.names() == ["/a"] and
                     room.left() == ["log", "t"], f"{status} {room.left()}")
@@ -227,8 +224,7 @@ def other_users(steps, room):
 
 def lost_folder(steps, room):
     (room.folder / "d").mkdir()
-    server = room.saving(save="d/t")
-    server.make("/a")
+    server = room.working(save="d/t")
     (room.folder / "d").rename(room.folder / "e")
     status = finish(server)
     said = server.errors()
@@ -238,13 +234,11 @@ def lost_folder(steps, room):
 
 def held_lock(steps, room):
     """Another process that holds the file's lock does not keep a session from ending."""
-    server = room.saving()
-    server.make("/a")
+    server = room.working()
     holds = ["flock", room.folder / "t", "sh", "-c", "echo held; exec sleep 1000"]
     with subprocess.Popen(holds, stdout=subprocess.PIPE) as holder:
         holder.stdout.readline()
-        server.process.send_signal(signal.SIGTERM)
-        status = server.status()
+        status = server.end_by(signal.SIGTERM)
         subprocess.run(["pkill", "-P", str(holder.pid)])
         holder.kill()
     steps.check("a lock that another process holds: the tree goes beside", status == 0 and

@@ -93,6 +93,11 @@ class Server(Client):
         """Its status, or None if it has not ended within so many seconds."""
         return ended(self.process, seconds)
 
+    def end_by(self, number, seconds=SOON):
+        """Sends it a signal. Returns its status, or None if it has not ended within so many seconds."""
+        self.process.send_signal(number)
+        return self.status(seconds)
+
     def errors(self):
         """What it printed to standard error. One that should have ended by now is killed."""
         if self.process.poll() is None:
@@ -143,6 +148,12 @@ class Room:
         server = self.serve("--save", save, *words, kind=kind, **more)
         if not server.open():
             raise AssertionError(f"no session: {server.status()}")
+        return server
+
+    def working(self, *words, **more):
+        """The same, with a directory /a that the client has made."""
+        server = self.saving(*words, **more)
+        server.make("/a")
         return server
 
     def names(self, name="t"):

@@ -15,7 +15,7 @@ from trials.other_servers import SFTP_SERVER, has_openssh
 from trials.probes import SERVE, misbehaving
 from trials.processes import wait_until
 from walk_trials.ends import PROMPT, signalled
-from walk_trials.walks import HOSTILE, POSIX, needs_infer, run
+from walk_trials.runs import HOSTILE, POSIX, needs_infer, run
 
 PROBE = os.path.join(TOP, "clients", "probe")
 OWN, BASE = b"/live/base", b"/live/base/plan"

@@ -12,7 +12,7 @@ import time
 from probing.program import TOP
 from trials.probes import SERVE, misbehaving
 from trials.processes import executable, kill, limited, processes_of, wait_until
-from walk_trials.walks import HOSTILE, HUNG, WALK, is_clean, needs_infer, run, walk
+from walk_trials.runs import HOSTILE, HUNG, WALK, is_clean, needs_infer, run, walk
 
 # Seconds after which a signal is said not to end a script.
 PROMPT = 60

@@ -3,15 +3,11 @@ import os
 import shutil
 import signal
 import subprocess
-import sys
 import tempfile
 
-from probing.program import TOP
 from trials.other_servers import SFTP_SERVER, has_openssh
 from walk_trials.ends import signalled, with_program
-from walk_trials.walks import HOSTILE, WALK, is_clean, make_live, needs_infer, run, walk
-
-BETWEEN = [sys.executable, os.path.join(TOP, "clients", "walk_trials", "between.py")]
+from walk_trials.runs import BETWEEN, HOSTILE, WALK, is_clean, make_live, needs_infer, run, walk
 
 # Faults of between.py, the status of a walk through a server with it, and what is said. What the walk is told but once,
 # such as a byte of a file, it has to believe, and so it finds a tree.

@@ -2,24 +2,14 @@
 import os
 import resource
 import subprocess
-import sys
 import tempfile
-from contextlib import contextmanager
 
 from probing import starting
 from probing.program import TOP, program
 from sftp3 import trees
 from trials.other_servers import SFTP_SERVER, has_openssh
 from trials.processes import executable, limited
-from walking.looking import can_infer
-
-WALK = os.path.join(TOP, "clients", "walk")
-HOSTILE = [sys.executable, os.path.join(TOP, "clients", "walk_trials", "hostile.py")]
-POSIX = ["--profile", "posix"]
-
-# Seconds of a processor after which a walk is said not to end, seconds after which it is said to hang, however busy the
-# machine is, and the most bytes of memory that one may take.
-ENDLESS, HUNG, MEMORY = 300, 1800, 1 << 30
+from walk_trials.runs import HOSTILE, POSIX, WALK, is_clean, make_live, needs_infer, run, walk
 
 # The server that does not reply, and for how many seconds a walk waits for it, and for replies of others.
 SILENT, SHORT, LONG = "hang", "1", "100"
@@ -77,48 +67,8 @@ TOLD = [
 OTHER, NO_TEXT = os.fsdecode(b"x\xff"), "sftpv3 takes no name that is not UTF-8"
 
 
-def limit():
-    resource.setrlimit(resource.RLIMIT_AS, (MEMORY, MEMORY))
-    resource.setrlimit(resource.RLIMIT_CPU, (ENDLESS, ENDLESS))
-
-
-def run(words, cwd, **options):
-    """The status of a command of the repository, and what it printed on both streams; no status if it hangs."""
-    try:
-        done = subprocess.run(words, cwd=cwd, stdin=subprocess.DEVNULL, stdout=subprocess.PIPE,
-                              stderr=subprocess.STDOUT, timeout=HUNG, check=False, **options)
-    except subprocess.TimeoutExpired:
-        return None, f"it did not end within {HUNG} seconds"
-    return done.returncode, done.stdout.decode(errors="replace")
-
-
-@contextmanager
-def room():
-    """A folder for a trial."""
-    with tempfile.TemporaryDirectory(prefix="sftpv3-test-walk-") as folder:
-        yield folder
-
-
-def no_trees(steps, _):
-    steps.skip("the trees", "this program has no `infer`")
-
-
-def needs_infer(*trials):
-    """These trials, if the program has the `infer` that they need."""
-    return trials if can_infer(program()) else (no_trees,)
-
-
-def walk(folder, options, command):
-    return run([WALK, *options, "--", *command], folder, preexec_fn=limit)
-
-
 def walk_hostile(folder, options, kind):
     return walk(folder, ["--timeout", SHORT if kind == SILENT else LONG, *options], [*HOSTILE, kind])
-
-
-def is_clean(said):
-    """Whether a text has no traceback, and nothing that a terminal acts on."""
-    return "Traceback" not in said and "\x1b" not in said
 
 
 def try_hostile(steps, folder):
@@ -194,16 +144,6 @@ def try_limited(steps, folder):
                        preexec_fn=limited(resource.RLIMIT_FSIZE, 2048))
     steps.check("a tree longer than a file may be: status 3, and why", status == 3 and "File too large" in said and
                 to in said and not os.path.exists(to), f"{status}: {said}")
-
-
-def make_live(folder, blocks=400):
-    """A folder with two levels, a link to a file, and a file of so many blocks of 256 bytes, which takes several
-    READs."""
-    os.makedirs(os.path.join(folder, "d", "e"))
-    for name, content in (("f", b"abc"), ("d/large", bytes(range(256)) * blocks), ("d/e/empty", b"")):
-        with open(os.path.join(folder, name), "wb") as file:
-            file.write(content)
-    os.symlink("../f", os.path.join(folder, "d", "up"))
 
 
 def try_posix(steps, folder):
