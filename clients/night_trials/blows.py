@@ -98,17 +98,14 @@ def kill_nights(steps, place, name, kept):
 
 def killed_when_accepting(steps, place):
     """Two sessions of which the second needs what the first one made, and one in which nothing was asked."""
-    place.nightly()
-    place.session("mkdir d")
-    place.session("mkdir d/e")
+    place.begin("mkdir d", "mkdir d/e")
     subprocess.run([str(it) for it in place.words], stdin=subprocess.DEVNULL, check=False)
     kill_nights(steps, place, "accepted sessions", {"accepted": sorted(it.name for it in place.records.iterdir())})
 
 
 def killed_when_refusing(steps, place):
     """A session that is accepted, one that is refused, and one that is not judged."""
-    place.nightly()
-    place.session("mkdir d")
+    place.begin("mkdir d")
     (place.live / "late").write_text("x")
     place.session(f"get late {place.room}/late")
     place.session("mkdir e")

@@ -86,8 +86,7 @@ exec {program} "$@"
 
 def a_soft_limit(steps, place):
     """A soft limit of the system is kept, too, and named where it is too low: --memory is not what is wrong."""
-    place.nightly()
-    place.session("mkdir d")
+    place.begin("mkdir d")
     program = executable(place.room / "greedy", GREEDY.format(program=PROGRAM))
     place.check(steps, "a soft limit that is too low: it is named", 1, "not judged: the audit needs more than the "
                 "system's limit of 314,572,800 bytes (ulimit -v)", program=program,
@@ -103,8 +102,7 @@ exec {program} "$@"
 
 def paused(steps, place):
     """A machine that is paused within an audit, and goes on later: that time is none of the audit's."""
-    place.nightly()
-    place.session("mkdir d")
+    place.begin("mkdir d")
     mark = place.room / "mark"
     program = executable(place.room / "slow", SLOW.format(mark=mark, program=PROGRAM))
     with subprocess.Popen(place.night_words("--audit-seconds", "15"), stdout=subprocess.PIPE, stderr=subprocess.STDOUT,

@@ -34,9 +34,7 @@ def end_by(place, number):
 
 
 def signals(steps, place):
-    place.nightly()
-    place.session("mkdir d")
-    place.session("mkdir d/e")
+    place.begin("mkdir d", "mkdir d/e")
     for number in (signal.SIGTERM, signal.SIGHUP, signal.SIGINT):
         status, said, left = end_by(place, number)
         steps.check(f"{number.name} ends a run with status {128 + number}, and all that it started",
@@ -122,8 +120,7 @@ for name in ("unlink", "fsync", "replace"):
 
 def removed_for_good(steps, place):
     """A record that is kept is gone from the spool whatever comes later, before its last tree is used."""
-    place.nightly()
-    place.session("mkdir d")
+    place.begin("mkdir d")
     (record,) = place.records.iterdir()
     notes = place.room / "notes"
     place.check(steps, "a run that is watched", 0, ENDS_WELL, script=changed(place, NOTED.format(notes=str(notes))))
@@ -144,8 +141,7 @@ records.Record.remove = remove
 
 def spool_read_only(steps, place):
     """A record that cannot be removed from the spool is kept once, and removed when it can be."""
-    place.nightly()
-    place.session("mkdir d")
+    place.begin("mkdir d")
     for _ in range(3):
         place.check(steps, "a record cannot be removed from the spool: status 3, and why", 3, "Read-only file system",
                     script=changed(place, READ_ONLY))

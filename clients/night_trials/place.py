@@ -58,6 +58,12 @@ class Place:
         if not self.try_session(*commands):
             raise subprocess.SubprocessError("the session failed")
 
+    def begin(self, *commands):
+        """The night that makes the tree of the start, and then a session for each of these commands."""
+        self.nightly()
+        for it in commands:
+            self.session(it)
+
     def try_session(self, *commands):
         """The same. Returns whether it went through."""
         server = executable(self.room / "server", f"#!/bin/sh\nexec {' '.join(map(str, self.words))}\n")

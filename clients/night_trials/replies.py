@@ -41,8 +41,7 @@ FAULTS = [
 
 def wrong_replies(steps, place):
     (place.live / "f").write_text("the right bytes")
-    place.nightly()
-    place.session("mkdir d")
+    place.begin("mkdir d")
     place.session(f"get f {place.room}/got")
     place.session("mkdir e")
     # the second of the three is given a wrong byte

@@ -52,9 +52,7 @@ records.mounted.open_at = removed
 
 def removed_meanwhile(steps, place):
     """A record that is gone when it is opened, as a recorder takes back that of a server that did not start."""
-    place.nightly()
-    place.session("ls")
-    place.session("mkdir d")
+    place.begin("ls", "mkdir d")
     place.check(steps, "a record that was removed meanwhile is none, and the next session is judged", 0,
                 "1 session accepted; " + ENDS_WELL, script=changed(place, REMOVED))
 
@@ -96,8 +94,7 @@ def dates_to_come(steps, place):
 
 def names_of_any_bytes(steps, place):
     """A record's name with line feeds, escapes and bytes that are no UTF-8."""
-    place.nightly()
-    place.session("mkdir d")
+    place.begin("mkdir d")
     (record,) = place.records.iterdir()
     os.rename(record, os.fsencode(place.records) + b"/a\nroot: 9 sessions accepted\x1b[2J\xff\xc3\xa9.transcript")
     status, said = place.nightly()
@@ -136,9 +133,7 @@ def full_state(steps, place):
         if not is_there:
             steps.skip("a full state", "no small disk can be made here")
             return
-        place.nightly()
-        place.session("mkdir d")
-        place.session("mkdir d/e")
+        place.begin("mkdir d", "mkdir d/e")
         filling = place.state / "filling"
         fill(filling)
         ran = []
@@ -154,8 +149,7 @@ def full_state(steps, place):
 
 
 def of_others(steps, place):
-    place.nightly()
-    place.session("mkdir d")
+    place.begin("mkdir d")
     mine = sorted(place.records.iterdir())[0]
     other, link, pipe = (place.record("20200101T000000Z", number) for number in (1, 2, 3))
     shutil.copy(mine, other)
@@ -181,8 +175,7 @@ def on_another_file_system(steps, place):
     with tempfile.TemporaryDirectory(dir="/dev/shm") as folder:
         place.records.rmdir()
         place.records.symlink_to(folder)
-        place.nightly()
-        place.session("mkdir d")
+        place.begin("mkdir d")
         place.check(steps, "records of another file system", 0, "1 session accepted; " + ENDS_WELL)
         steps.check("are moved, too", len(place.kept("accepted")) == 1 and not os.listdir(folder) and
                     place.kept("accepted")[0].read_bytes().startswith(b"SFTPTR01C"))

@@ -19,8 +19,7 @@ def usage(steps, place):
         place.check(steps, f"{' '.join(words)}, which the audit does not take: status 2 before anything is made", 2,
                     "nightly: behind --: ", words[-2] if words[-1] == "x" else words[0], words=["--", *words])
     steps.check("and nothing is made", not (place.state / USER / "tree").exists())
-    place.nightly()
-    place.session("mkdir d")
+    place.begin("mkdir d")
     place.check(steps, "later, too", 2, "--wrong", words=["--", "--wrong"])
     steps.check("and the records stay", len(list(place.records.iterdir())) == 1)
     held = os.open(place.state / USER, os.O_RDONLY)
@@ -33,8 +32,7 @@ def usage(steps, place):
 
 def nobody_reads(steps, place):
     """What cannot be printed is not done either: so no verdict is lost."""
-    place.nightly()
-    place.session("mkdir d")
+    place.begin("mkdir d")
     with open("/dev/full", "wb") as full:
         done = subprocess.run(place.night_words(), stdout=full, stderr=subprocess.PIPE, text=True, check=False,
                               env=environment())

@@ -128,8 +128,7 @@ def folders(steps, room):
     ran = run(room, "open/below/t", STUB, data=INIT)
     steps.check("a folder below one that others can write to: a warning", b"/open is writable" in ran.stderr,
                 str(ran.stderr))
-    if os.geteuid() != 0:
-        steps.skip("a folder of another user", "root alone can make one")
+    if steps.lacks_root("a folder of another user", "root alone can make one"):
         return
     for group, is_warned in ((0, False), (12345, True)):
         os.chown(room.folder / "sticky", 0, group)

@@ -275,8 +275,7 @@ def units(steps, room):
 
 def other_user(steps, room):
     """A login user can use the spool, and neither read, change, rename nor remove what is in it."""
-    if os.geteuid() != 0:
-        steps.skip("a spool and a second user", "root alone can make one")
+    if steps.lacks_root("a spool and a second user", "root alone can make one"):
         return
     make_user(OTHER)
     try:

@@ -59,8 +59,7 @@ def logs_that_cannot_be_opened(steps, room):
 
 
 def logs_of_others(steps, room):
-    if os.geteuid() != 0:
-        steps.skip("a log of another user", "it needs root")
+    if steps.lacks_root("a log of another user"):
         return
     make_user(USER)
     try:

@@ -146,8 +146,7 @@ def no_files(steps, room):
 
 
 def full_disk(steps, room):
-    if os.geteuid() != 0:
-        steps.skip("a full disk", "it needs root")
+    if steps.lacks_root("a full disk"):
         return
     small = room.folder / "small"
     with small_disk(small, "1m") as is_there:
@@ -186,8 +185,7 @@ def on_a_full_disk(steps, room, small):
 
 def other_users(steps, room):
     """Folders that another user cannot write, and files of others in a folder of all."""
-    if os.geteuid() != 0:
-        steps.skip("folders and files of other users", "they need root")
+    if steps.lacks_root("folders and files of other users", "they need root"):
         return
     make_user(USER)
     try:

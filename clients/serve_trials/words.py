@@ -130,8 +130,7 @@ def unpacked(room):
 def with_long_names(steps, room):
     """Long names beside the system's `ls -ln`, of a folder that tar made of the same tree."""
     make(room)
-    if os.geteuid() != 0:
-        steps.skip("long names beside ls -ln", "tar gives files to other users as root alone")
+    if steps.lacks_root("long names beside ls -ln", "tar gives files to other users as root alone"):
         return
     expected = unpacked(room)
     sftp = ["sftp", "-q", "-b", "-", "-D"]

@@ -45,6 +45,13 @@ class Steps:
             self.skipped += 1
             print(f"skipped: {name}: {why}", flush=True)
 
+    def lacks_root(self, name: str, why: object = "it needs root") -> bool:
+        """Whether this is not root. Then the step cannot be tried."""
+        if os.geteuid() == 0:
+            return False
+        self.skip(name, why)
+        return True
+
     def end(self) -> int:
         """Prints the line that counts the steps. Returns the exit status."""
         print(f"{self.passed} passed, {self.failed} failed, {self.skipped} skipped", flush=True)

@@ -172,8 +172,7 @@ def entries_below(name, place):
 
 def try_link(steps, folder):
     """A link of another user does not say where the tree goes."""
-    if os.geteuid() != 0:
-        steps.skip("a link of another user", "needs root")
+    if steps.lacks_root("a link of another user", "needs root"):
         return
     shared = os.path.join(folder, "shared")
     os.mkdir(shared)
