@@ -8,15 +8,12 @@ from contextlib import contextmanager
 
 from dates_trials.rooms import OLD
 from trials.clients import Mount, ServerOfLftp, has
+from trials.processes import run
 
 # sshfs 3.7.3 opens what is there with TRUNC and without CREAT, which the draft does not allow; so nothing is opened so.
 MAKEFILE = "out: in\n\tcp --remove-destination in out\n"
 # How long a mount may remember attributes.
 FRESH = "cache=no"
-
-
-def run(words, **more):
-    return subprocess.run(list(map(str, words)), stdout=subprocess.PIPE, stderr=subprocess.STDOUT, text=True, **more)
 
 
 @contextmanager

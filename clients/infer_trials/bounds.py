@@ -4,16 +4,15 @@ The memory is the most that the process had. It may be twice the bytes of the tr
 replies tell of, what the program takes for a session of no requests, and the bytes of files whose size alone is told.
 Where these are more than the program allows, or paths are, it has to say so and end with status 3.
 """
-import json
 import os
 import re
 import subprocess
-import sys
 from dataclasses import dataclass
 
 from infer_trials import judging
-from sftp3.packets import CLIENT, SERVER, Packet, encode, init, version
-from sftp3.transcripts import put_records
+from sftp3.packets import CLIENT, SERVER, Packet, encode
+from sftp3.transcripts import BEGUN, put_records
+from trials.processes import used_by
 
 # What the program takes for a session of no requests and what its facts may take in any; the seconds that a session may
 # take beside those for its bytes.
@@ -47,7 +46,7 @@ class Costly:
 
 def records(exchanges):
     """The records of a session in which each request has its reply at once."""
-    found = [(CLIENT, init()), (SERVER, version(3, []))]
+    found = [*BEGUN]
     for number, ((asked, *fields), (replied, *values)) in enumerate(exchanges):
         found += [(CLIENT, encode(Packet(number, asked, fields))), (SERVER, encode(Packet(number, replied, values)))]
     return found
@@ -181,22 +180,13 @@ SESSIONS = {
 }
 
 
-# Runs a command as the only child of a process that has little memory itself, since a child's memory counts from before
-# it runs another program.
-MEASURE = """
-import json, resource, subprocess, sys
-done = subprocess.run(sys.argv[1:], stdin=subprocess.DEVNULL, capture_output=True)
-usage = resource.getrusage(resource.RUSAGE_CHILDREN)
-said, why = (text.decode(errors="replace") for text in (done.stdout, done.stderr))
-print(json.dumps([done.returncode, usage.ru_utime + usage.ru_stime, usage.ru_maxrss * 1024, said, why]))
-"""
-
-
 def measured(words):
     """The exit status of a command, the seconds of a processor and the most bytes of memory that it took, and what it
     said on standard output and on standard error. Raises Wrong if it does not end."""
     try:
-        return json.loads(subprocess.check_output([sys.executable, "-c", MEASURE, *words], timeout=judging.PATIENCE))
+        done, seconds, memory = used_by(words, stdin=subprocess.DEVNULL, capture_output=True, text=True,
+                                        errors="replace", timeout=judging.PATIENCE)
+        return done.returncode, seconds, memory, done.stdout, done.stderr
     except subprocess.TimeoutExpired:
         raise judging.Wrong(f"`infer` took more than {judging.PATIENCE} seconds") from None
 

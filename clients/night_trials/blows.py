@@ -76,39 +76,42 @@ def kill_at(place, number, kept):
         shutil.rmtree(copied.room)
 
 
-def kill_at_each(place, name, kept):
-    """Kills a run at each of its steps in turn, until it ends before the step."""
+def kill_at_each(kill):
+    """Kills what this starts at each of its steps in turn, until it ends before the step. Returns how many steps there
+    are, and what is wrong after them."""
     wrong, count, goes_on = [], 0, True
     with ThreadPoolExecutor(AT_ONCE) as pool:
         while goes_on:
-            numbers = range(count + 1, count + 1 + AT_ONCE)
-            found = list(pool.map(lambda number: kill_at(place, number, kept), numbers))
+            found = list(pool.map(kill, range(count + 1, count + 1 + AT_ONCE)))
             goes_on = all(was_killed for was_killed, _ in found)
             count += sum(was_killed for was_killed, _ in found)
             wrong += [why for _, why in found if why]
-    place.steps.check(f"{name}: a run killed at each of {count} steps on files loses nothing and judges nothing twice",
-                      count > 20 and not wrong, f"{len(wrong)} wrong: {wrong[:3]}")
+    return count, wrong
 
 
-def killed_when_accepting(place):
+def kill_nights(steps, place, name, kept):
+    """Kills a run at each of its steps on files."""
+    count, wrong = kill_at_each(lambda number: kill_at(place, number, kept))
+    steps.check(f"{name}: a run killed at each of {count} steps on files loses nothing and judges nothing twice",
+                count > 20 and not wrong, f"{len(wrong)} wrong: {wrong[:3]}")
+
+
+def killed_when_accepting(steps, place):
     """Two sessions of which the second needs what the first one made, and one in which nothing was asked."""
-    place.nightly()
-    place.session("mkdir d")
-    place.session("mkdir d/e")
+    place.begin("mkdir d", "mkdir d/e")
     subprocess.run([str(it) for it in place.words], stdin=subprocess.DEVNULL, check=False)
-    kill_at_each(place, "accepted sessions", {"accepted": sorted(it.name for it in place.records.iterdir())})
+    kill_nights(steps, place, "accepted sessions", {"accepted": sorted(it.name for it in place.records.iterdir())})
 
 
-def killed_when_refusing(place):
+def killed_when_refusing(steps, place):
     """A session that is accepted, one that is refused, and one that is not judged."""
-    place.nightly()
-    place.session("mkdir d")
+    place.begin("mkdir d")
     (place.live / "late").write_text("x")
     place.session(f"get late {place.room}/late")
     place.session("mkdir e")
     first, second, third = sorted(it.name for it in place.records.iterdir())
-    kill_at_each(place, "a refused session", {"accepted": [first], "refused": [second, f"{second}.verdict"],
-                                              "unjudged": [third]})
+    kill_nights(steps, place, "a refused session", {"accepted": [first], "refused": [second, f"{second}.verdict"],
+                                                    "unjudged": [third]})
 
 
 # A recorder that is killed before one of the calls by which it writes records, and passes packets on.
@@ -139,7 +142,7 @@ def kill_recorder_at(place, number):
     """Kills the recorder of a session at this call. Returns whether it came to that call, and what is wrong."""
     room = place.room / f"call-{number}"
     room.mkdir()
-    of_its_own = Place(room, place.steps)
+    of_its_own = Place(room)
     of_its_own.nightly()
     text = KILLED_RECORDER.format(number=number, record=str(TOP / "clients/record"))
     of_its_own.words[0] = executable(room / "recorder", text)
@@ -150,17 +153,10 @@ def kill_recorder_at(place, number):
     return not is_whole, "" if is_well else f"call {number}: {status}: {said}"
 
 
-def killed_recorders(place):
-    wrong, count, goes_on = [], 0, True
-    with ThreadPoolExecutor(AT_ONCE) as pool:
-        while goes_on:
-            numbers = range(count + 1, count + 1 + AT_ONCE)
-            found = list(pool.map(lambda number: kill_recorder_at(place, number), numbers))
-            goes_on = all(was_killed for was_killed, _ in found)
-            count += sum(was_killed for was_killed, _ in found)
-            wrong += [why for _, why in found if why]
-    place.steps.check(f"a recorder killed at each of {count} calls: the night refuses nothing, and blames no other",
-                      count > 20 and not wrong, f"{len(wrong)} wrong: {wrong[:3]}")
+def killed_recorders(steps, place):
+    count, wrong = kill_at_each(lambda number: kill_recorder_at(place, number))
+    steps.check(f"a recorder killed at each of {count} calls: the night refuses nothing, and blames no other",
+                count > 20 and not wrong, f"{len(wrong)} wrong: {wrong[:3]}")
 
 
 TRIALS = (killed_when_accepting, killed_when_refusing, killed_recorders)

@@ -33,8 +33,7 @@ def try_limits(steps, folder):
                 steps.check(f"{errno.errorcode[number]} is not the server's", False, error)
             except OSError as error:
                 steps.check(f"{errno.errorcode[number]} is not the server's", error.errno == number, error)
-    if os.geteuid() != 0:
-        steps.skip("no further threads", "it needs root")
+    if steps.lacks_root("no further threads"):
         return
     room = tempfile.mkdtemp(dir="/tmp")
     os.chown(room, NOBODY, NOBODY)

@@ -132,8 +132,7 @@ def try_link_order(steps, folder):
                     [sftp3.decode(packet).fields for packet in links] == wanted, said)
         record = os.path.join(folder, "links.transcript")
         with open(record, "wb") as file:
-            file.write(sftp3.put_records([(b"C", sftp3.init()), (b"S", sftp3.version(3, [])),
-                                          *((b"C", packet) for packet in links)]))
+            file.write(sftp3.put_records([*sftp3.BEGUN, *((b"C", packet) for packet in links)]))
         probe("--session", record, "--in-flight", "1", "--profile", "posix", *words, "--budget", "0", "--", "sh", "-c",
               f"tee {sent} | {server}", "{tree}")
         with open(sent, "rb") as file:

@@ -31,8 +31,9 @@ class Fault(planted.Bug):
 
     def __init__(self):
         super().__init__()
-        # requests by their ids, and those that opened what is open, by its handle; how far a path's file was written
-        self.asked, self.opened, self.lengths = {}, {}, {}
+        # requests by their ids, and those that opened what is open, by its handle; how far a path's file was written;
+        # how many requests through what one of them opened are counted
+        self.asked, self.opened, self.lengths, self.counts = {}, {}, {}, {}
         self.own, self.unseen = OWN_IDS, set()
 
     def alter(self, asked):
@@ -93,6 +94,12 @@ class Fault(planted.Bug):
         """The number of the request that opened the handle of a request, or None."""
         opener = self.opened.get(asked.handle())
         return opener and opener.number
+
+    def count_through(self, asked):
+        """Counts a request among those through one opening of a file. Returns how many these are."""
+        number = self.opener_number(asked)
+        self.counts[number] = self.counts.get(number, 0) + 1
+        return self.counts[number]
 
     def path(self, asked):
         """The path that the handle of a request was opened by."""
@@ -276,6 +283,41 @@ class Reads(Fault):
     def shown(self, _asked, _offset, data):
         """The bytes in place of those at this offset, or None for the end of the file."""
         return data
+
+
+class Makes(Fault):
+    """Knows the paths that the session made by one request."""
+
+    # the request, and the place of the path among its fields
+    MAKER, PLACE = "MKDIR", 0
+
+    def __init__(self):
+        super().__init__()
+        self.made = set()
+
+    def alter(self, asked):
+        if asked.name == self.MAKER:
+            self.made.add(clean(asked.fields[self.PLACE]))
+
+
+class Moved(Fault):
+    """Knows what was renamed while it was open, by the numbers of the requests that opened it."""
+
+    # which path of a RENAME is meant
+    WHICH = 0
+
+    def __init__(self):
+        super().__init__()
+        self.moved = set()
+
+    def alter(self, asked):
+        if asked.name in MOVES:
+            self.moved |= {opener.number for opener in list(self.opened.values())
+                           if self.is_meant(opener.fields[0], asked.fields[self.WHICH])}
+
+    def is_meant(self, path, renamed):
+        """Whether what was opened by a path is renamed with another."""
+        return path == renamed
 
 
 class Listings(Fault):

@@ -51,14 +51,8 @@ class write_128_lost(write_lost_by_count):
 class read_256_wrong(Reads):
     """The 256th READ through a handle gives bytes of 0."""
 
-    def __init__(self):
-        super().__init__()
-        self.counts = {}
-
     def shown(self, asked, _offset, data):
-        number = self.opener_number(asked)
-        self.counts[number] = self.counts.get(number, 0) + 1
-        return bytes(len(data)) if self.counts[number] == 256 else data
+        return bytes(len(data)) if self.count_through(asked) == 256 else data
 
 
 class Failing(Fault):

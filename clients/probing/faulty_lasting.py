@@ -15,16 +15,13 @@ sys.path.insert(0, os.path.dirname(os.path.dirname(os.path.realpath(__file__))))
 
 import sftp3  # noqa: E402 (the folder above is not searched before)
 from probing import planted  # noqa: E402
+from probing.faulty import clean  # noqa: E402
 from probing.program import program  # noqa: E402
 from sftp3 import trees  # noqa: E402
 from sftp3.trees import DIRECTORY, FILE, FURTHER, LINK, Entry  # noqa: E402
 
 # The bytes of a block of a disk, and how many names the fault of listings keeps.
 BLOCK, NAMES = 4096, 1000
-
-
-def clean(path):
-    return posixpath.normpath(b"/" + path.lstrip(b"/"))
 
 
 class sound(planted.Bug):

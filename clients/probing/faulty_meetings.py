@@ -4,7 +4,7 @@ import posixpath
 
 import sftp3
 from probing.faulty import (
-    ABSENT, FAILED, LOOKS, MOVES, SETS, Attributes, Fault, InFlight, Meets, Refuses, aim_of, clean, is_path,
+    ABSENT, FAILED, LOOKS, MOVES, SETS, Attributes, Fault, InFlight, Makes, Meets, Refuses, aim_of, clean, is_path,
     sets_size, status, with_names)
 from sftp3 import APPEND, CREAT, EXCL, READ, TRUNC, WRITE
 
@@ -95,16 +95,10 @@ class refused_open_empties(Fault):
         return [asked]
 
 
-class directory_replaces_file(Meets):
+class directory_replaces_file(Makes):
     """posix-rename of a directory that the session made takes the place of a file."""
 
-    def __init__(self):
-        super().__init__()
-        self.made = set()
-
     def ask(self, asked):
-        if asked.name == "MKDIR":
-            self.made.add(clean(asked.fields[0]))
         if asked.name == "POSIX-RENAME" and clean(asked.fields[0]) in self.made:
             return [self.another("REMOVE", asked.fields[1]), asked]
         return [asked]
@@ -245,16 +239,12 @@ class link_again_fails(Refuses):
         return asked.name == "SYMLINK" and clean(asked.fields[1]) in self.gone
 
 
-class Further(Fault):
+class Further(Makes):
     """Knows the names that HARDLINK made."""
 
-    def __init__(self):
-        super().__init__()
-        self.made = set()
+    MAKER, PLACE = "HARDLINK", 1
 
     def ask(self, asked):
-        if asked.name == "HARDLINK":
-            self.made.add(clean(asked.fields[1]))
         if asked.name == "OPEN" and clean(asked.fields[0]) in self.made:
             return self.of_further(asked)
         return [asked]
@@ -283,16 +273,10 @@ class sets_what_is_there(Fault):
         return [asked]
 
 
-class renamed_directory_is_reset(Fault):
+class renamed_directory_is_reset(Makes):
     """RENAME of a directory that the session made gives it the permissions 0755."""
 
-    def __init__(self):
-        super().__init__()
-        self.made = set()
-
     def ask(self, asked):
-        if asked.name == "MKDIR":
-            self.made.add(clean(asked.fields[0]))
         if asked.name == "RENAME" and clean(asked.fields[0]) in self.made:
             return [self.another("SETSTAT", asked.fields[0], {"permissions": 0o755}), asked]
         return [asked]

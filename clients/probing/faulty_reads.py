@@ -1,6 +1,6 @@
 """Faults of servers in what is read: corruption, cuts, early and late ends, what was read before."""
 import sftp3
-from probing.faulty import FAR, MOVES, OK_STATUS, Reads, status, with_data
+from probing.faulty import FAR, OK_STATUS, Moved, Reads, status, with_data
 
 KIB = 1024
 
@@ -67,17 +67,11 @@ class read_ends_at_block(Reads):
         return None if self.lengths.get(self.path(asked)) == 32 * KIB and offset >= 16 * KIB else data
 
 
-class read_ends_below_renamed(Reads):
+class read_ends_below_renamed(Moved, Reads):
     """A READ through a handle finds the end once a directory on the path that it was opened by got another name."""
 
-    def __init__(self):
-        super().__init__()
-        self.moved = set()
-
-    def alter(self, asked):
-        if asked.name in MOVES:
-            self.moved |= {opener.number for opener in list(self.opened.values())
-                           if opener.fields[0].startswith(asked.fields[0] + b"/")}
+    def is_meant(self, path, renamed):
+        return path.startswith(renamed + b"/")
 
     def shown(self, asked, _offset, data):
         return None if self.opener_number(asked) in self.moved else data

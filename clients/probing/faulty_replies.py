@@ -1,7 +1,8 @@
 """Faults of servers in attributes, codes and handles, and those that only requests in flight together show."""
 import sftp3
 from probing.faulty import (
-    END, FAILED, FAR, LOOKS, MOVES, SETS, Attributes, Fault, InFlight, Overtaking, Statuses, data_of, status, with_data)
+    END, FAILED, FAR, LOOKS, MOVES, SETS, Attributes, Fault, InFlight, Moved, Overtaking, Statuses, data_of, status,
+    with_data)
 
 
 class size_wraps(Attributes):
@@ -44,24 +45,14 @@ class fstat_stale(Attributes):
         return given if asked.name != "FSTAT" else self.first.setdefault(self.opener_number(asked), given)
 
 
-class fstat_by_old_path(Fault):
+class fstat_by_old_path(Moved):
     """FSTAT through a handle whose file got another name, by the path that it was opened by, shows what is there."""
 
-    def __init__(self):
-        super().__init__()
-        self.moved = set()
-
     def ask(self, asked):
-        if asked.name in MOVES:
-            self.moved |= {opener.number for opener in list(self.opened.values())
-                           if opener.fields[0] == asked.fields[self.WHICH]}
         opener = self.opened.get(asked.handle()) if asked.name == "FSTAT" else None
         if opener is not None and opener.number in self.moved:
             return [sftp3.Request(asked.number, "STAT", opener.fields[:1])]
         return [asked]
-
-    # which path of a RENAME is meant
-    WHICH = 0
 
 
 class fstat_of_replacing(fstat_by_old_path):

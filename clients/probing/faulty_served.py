@@ -4,7 +4,7 @@ import posixpath
 
 import sftp3
 from probing.faulty import (
-    END, FAILED, FAR, LOOKS, OK_STATUS, Asks, Fault, Listings, Meets, Reads, Refuses, Statuses, clean, refused,
+    END, FAILED, FAR, LOOKS, OK_STATUS, Asks, Fault, Listings, Makes, Meets, Reads, Refuses, Statuses, clean, refused,
     status, with_names)
 from probing.faulty_meetings import Targets
 from sftp3 import APPEND, CREAT, EXCL, READ, WRITE
@@ -88,16 +88,13 @@ class rename_follows_link(Walks):
             asked.fields[0] = self.aim(asked.fields[0])
 
 
-class remove_follows_link(Walks):
+class remove_follows_link(Makes, Walks):
     """REMOVE of a link that the session made, and that leads to a file, removes the file."""
 
-    def __init__(self):
-        super().__init__()
-        self.made = set()
+    MAKER, PLACE = "SYMLINK", 1
 
     def alter(self, asked):
-        if asked.name == "SYMLINK":
-            self.made.add(clean(asked.fields[1]))
+        super().alter(asked)
         if asked.name == "REMOVE" and clean(asked.fields[0]) in self.made \
                 and self.kind_now(asked.fields[0], "STAT") == FILE and self.kind_now(asked.fields[0]) == LINK:
             asked.fields[0] = self.aim(asked.fields[0])

@@ -1,7 +1,7 @@
 """Faults of servers in what is written: loss, corruption and cuts, by size, by offset, by count, at the end, after a
 rename, after a truncation. The text of each class says what the server does wrong."""
 import sftp3
-from probing.faulty import FAR, MOVES, SETS, Fault, Writes
+from probing.faulty import FAR, MOVES, SETS, Fault, Moved, Writes
 
 KIB = 1024
 
@@ -25,14 +25,8 @@ class write_lost_by_count(Writes):
 
     COUNT = 16
 
-    def __init__(self):
-        super().__init__()
-        self.counts = {}
-
     def loses(self, asked, _offset, _data):
-        number = self.opener_number(asked)
-        self.counts[number] = self.counts.get(number, 0) + 1
-        return self.counts[number] == self.COUNT
+        return self.count_through(asked) == self.COUNT
 
 
 class write_lost_at_end(Writes):
@@ -132,16 +126,8 @@ class empty_write_lengthens(Writes):
         return [sftp3.Request(asked.number, "FSETSTAT", [handle, {"size": offset}])]
 
 
-class write_lost_after_rename(Writes):
+class write_lost_after_rename(Moved, Writes):
     """What is written through a handle whose file got another name, by the path that it was opened by, is lost."""
-
-    def __init__(self):
-        super().__init__()
-        self.moved = set()
-
-    def alter(self, asked):
-        if asked.name in MOVES:
-            self.moved |= {opener.number for opener in self.opened.values() if opener.fields[0] == asked.fields[0]}
 
     def loses(self, asked, _offset, _data):
         return self.opener_number(asked) in self.moved

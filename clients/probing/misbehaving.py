@@ -15,6 +15,7 @@ sys.path.insert(0, os.path.dirname(os.path.dirname(os.path.realpath(__file__))))
 
 import sftp3  # noqa: E402 (the folder above is not searched before)
 from probing import planted  # noqa: E402
+from probing.planted import write  # noqa: E402
 
 
 # The flag of an owner among attributes.
@@ -445,12 +446,6 @@ def packets_of(source):
         if not more:
             return
         data += more
-
-
-def write(target, data):
-    view = memoryview(data)
-    while view:
-        view = view[os.write(target, view):]
 
 
 def main(kinds):

@@ -6,7 +6,7 @@ import subprocess
 import time
 
 import sftp3
-from record_trials.steps import INIT, RECORD, STUB, close, errors, open_session, receive, stubs
+from record_trials.steps import INIT, RECORD, STUB, close, errors, leave, open_session, receive, stubs
 from sftp3 import request
 from trials.processes import SOON, ended, wait_until
 
@@ -33,8 +33,7 @@ def all_ended(steps, name, room, process, statuses):
 def vanishing_client(steps, room):
     for words in ((), ("stays",), ("ignores",)):
         name = " ".join(["a client vanishes during a download", *words])
-        process = room.stub("t", *words, options=["--overwrite"])
-        open_session(process)
+        process = room.session("t", *words, options=["--overwrite"])
         process.stdin.write(b"".join(request(it, "READ", b"h", it * 32768, 32768) for it in range(64)))
         receive(process, 100_000)
         close(process.stdin), close(process.stdout)
@@ -43,8 +42,7 @@ def vanishing_client(steps, room):
 
 def streams(steps, room):
     """The server's streams are sockets, which nobody can open by a name in /proc, and half of one can be closed."""
-    process = room.stub("t")
-    open_session(process)
+    process = room.session("t")
     server = stubs(room.folder)[0]
     for file in (0, 1):
         path = f"/proc/{server}/fd/{file}"
@@ -57,15 +55,13 @@ def streams(steps, room):
                     os.readlink(path).startswith("socket:"), os.readlink(path))
     steps.check("the recorder's files are shut to its user", os.geteuid() == 0 or
                 not os.access(f"/proc/{process.pid}/fd", os.R_OK))
-    close(process.stdin)
-    steps.check("the session ends well", ended(process, SOON) == 0)
+    steps.check("the session ends well", leave(process) == 0)
 
 
 def pipes_alone(steps, room):
     for words in ((), ("stays",), ("ignores",)):
         for pipe in ("stdin", "stdout"):
-            process = room.stub("t", *words, options=["--overwrite"])
-            open_session(process)
+            process = room.session("t", *words, options=["--overwrite"])
             close(getattr(process, pipe))
             name = " ".join([f"the client closes its {pipe} alone", *words])
             all_ended(steps, name, room, process, {0, 128 + signal.SIGPIPE, 128 + signal.SIGTERM, 128 + signal.SIGKILL})
@@ -93,8 +89,7 @@ FIRST = [
 def servers_that_end_first(steps, room):
     """A record does not have why it ends: the recorder says so, to standard error and the log."""
     for word, told in FIRST:
-        process = room.stub("t", word, options=["--overwrite", "--log", "log"])
-        open_session(process)
+        process = room.session("t", word, options=["--overwrite", "--log", "log"])
         if told.endswith("unanswered"):
             process.stdin.write(request(1, "STAT", b"/"))
         ended(process, SOON)
@@ -104,8 +99,7 @@ def servers_that_end_first(steps, room):
         (room.folder / "log").unlink()
     for word, closes in (("", ["stdin"]), ("", ["stdin", "stdout"]), ("stays", ["stdin", "stdout"]),
                          ("crashes", ["stdin"])):
-        process = room.stub("t", word, options=["--overwrite", "--log", "log"])
-        open_session(process)
+        process = room.session("t", word, options=["--overwrite", "--log", "log"])
         for it in closes:
             close(getattr(process, it))
         ended(process, SOON)
@@ -116,12 +110,10 @@ def servers_that_end_first(steps, room):
 def signals(steps, room):
     for number in (signal.SIGTERM, signal.SIGHUP, signal.SIGINT):
         for words in ((), ("ignores",)):
-            process = room.stub("t", *words, options=["--overwrite"])
-            open_session(process)
+            process = room.session("t", *words, options=["--overwrite"])
             process.send_signal(number)
             all_ended(steps, " ".join([number.name, *words]), room, process, {128 + number})
-    process = room.stub("t", options=["--overwrite"])
-    open_session(process)
+    process = room.session("t", options=["--overwrite"])
     # the client does not read, so that all buffers are full
     process.stdin.write(b"".join(request(it, "READ", b"h", it * 32768, 32768) for it in range(300)))
     time.sleep(0.3)
@@ -131,13 +123,11 @@ def signals(steps, room):
 
 def ignored_signals(steps, room):
     """sftp starts its server with SIGINT ignored, so that Ctrl-C ends a transfer and not the session."""
-    process = room.stub("t", preexec_fn=lambda: signal.signal(signal.SIGINT, signal.SIG_IGN))
-    open_session(process)
+    process = room.session("t", preexec_fn=lambda: signal.signal(signal.SIGINT, signal.SIG_IGN))
     process.send_signal(signal.SIGINT)
     process.stdin.write(request(1, "STAT", b"/"))
     steps.check("SIGINT that was ignored at the start stays ignored", len(receive(process, 21)) == 21)
-    close(process.stdin)
-    steps.check("and the session ends with status 0", ended(process, SOON) == 0)
+    steps.check("and the session ends with status 0", leave(process) == 0)
 
 
 def whole_sessions(steps, room):
@@ -154,25 +144,21 @@ def whole_sessions(steps, room):
         steps.check(f"{name}: the transcript has what was asked", b"".join(client) == requests)
         server = [it for side, it in sftp3.records(room.read("t")) if side == b"S"]
         steps.check(f"{name}: the transcript has what was replied", b"".join(server) == ran.stdout)
-    process = room.stub("t", "saves", options=["--overwrite"])
-    open_session(process)
-    close(process.stdin)
+    process = room.session("t", "saves", options=["--overwrite"])
     steps.check("a server that works for two seconds after its input ended is left to do so",
-                ended(process, SOON) == 0 and "saved" in errors(process))
+                leave(process) == 0 and "saved" in errors(process))
 
 
 def ends_soon(room, words, options, asked, is_there):
     """Whether a session ends soon after the end of the client's input. The client takes all that comes as long as it
     `is_there`."""
-    process = room.stub("t", *words, options=["--overwrite", "--grace", "1", *options])
-    open_session(process)
+    process = room.session("t", *words, options=["--overwrite", "--grace", "1", *options])
     process.stdin.write(asked)
     reader = subprocess.Popen(["cat"], stdin=process.stdout, stdout=subprocess.DEVNULL)
     close(process.stdout)
     if not is_there:
         reader.kill()
-    close(process.stdin)
-    status = ended(process, SOON)
+    status = leave(process)
     reader.kill(), reader.wait()
     for it in stubs(room.folder):
         os.kill(it, signal.SIGKILL)
@@ -193,8 +179,7 @@ def sending_servers(steps, room):
 
 def slow_client(steps, room):
     """A client that reads slowly gets every byte, and the recorder holds no more than its buffers."""
-    process = room.stub("t", options=["--overwrite"])
-    open_session(process)
+    process = room.session("t", options=["--overwrite"])
     count = 600
     writer = subprocess.Popen(["cat"], stdin=subprocess.PIPE, stdout=process.stdin)
     process.stdin.close()

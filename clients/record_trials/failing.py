@@ -9,18 +9,13 @@ import sftp3
 from record_trials.ends import whole
 from record_trials.steps import INIT, RECORD, STUB, errors, open_session
 from sftp3 import request
-from trials.processes import SOON, ended, executable
+from trials.disks import small_disk
+from trials.processes import SOON, ended, executable, limited, worked
 
 
 def run(room, *words, data=b"", **options):
     return subprocess.run([RECORD, *map(str, words)], input=data, stdout=subprocess.PIPE, stderr=subprocess.PIPE,
                           cwd=room.folder, timeout=SOON, **options)
-
-
-def worked():
-    """How many seconds processors worked for all that was run, and has ended."""
-    used = resource.getrusage(resource.RUSAGE_CHILDREN)
-    return used.ru_utime + used.ru_stime
 
 
 def commands(steps, room):
@@ -100,10 +95,6 @@ def files_named_twice(steps, room):
     steps.check("a device may be named twice", (ran.returncode, len(ran.stdout)) == (0, 9), str(ran))
 
 
-def limited(kind, count):
-    return lambda: resource.setrlimit(kind, (count, count))
-
-
 def full_disks(steps, room):
     asked = INIT + b"".join(request(it, "READ", b"h", 0, 32768) for it in range(20))
     size = 9 + 20 * (13 + 32768)
@@ -127,7 +118,7 @@ def full_disks(steps, room):
     steps.check("no folder: the session goes on without a record", (ran.returncode, len(ran.stdout)) == (0, size))
     no_room_at_all(steps, room, asked, size)
     if os.geteuid() == 0:
-        small_disk(steps, room, asked, size)
+        on_a_small_disk(steps, room, asked, size)
     else:
         steps.skip("a small file system", "root alone can mount one")
 
@@ -161,16 +152,14 @@ def few_descriptors(steps, room):
             (room.folder / it).unlink()
 
 
-def small_disk(steps, room, asked, size):
-    small = room.folder / "small"
-    small.mkdir()
-    subprocess.run(["mount", "-t", "tmpfs", "-o", "size=64k", "tmpfs", small], check=True)
-    try:
+def on_a_small_disk(steps, room, asked, size):
+    with small_disk(room.folder / "small", "64k") as is_there:
+        if not is_there:
+            steps.skip("a small file system", "none can be made here")
+            return
         ran = run(room, "small/t", STUB, data=asked)
         steps.check("a small file system: the session goes on", (ran.returncode, len(ran.stdout)) == (0, size))
         steps.check("a small file system: the transcript is whole", whole(room, "small/t")[0])
-    finally:
-        subprocess.run(["umount", small], check=True)
 
 
 def long_packets(steps, room):

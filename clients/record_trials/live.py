@@ -8,12 +8,12 @@ import subprocess
 import time
 
 from record_trials.ends import whole
-from record_trials.failing import limited, run
-from record_trials.steps import INIT, PROGRAM, STUB, close, errors, open_session, receive
+from record_trials.failing import run
+from record_trials.steps import INIT, PROGRAM, STUB, Room, close, errors, leave, open_session, receive
 from recording import naming
 from recording.options import AUDIT_FLAGS, AUDIT_VALUES, audit_words, plainly_read
 from sftp3 import request, trees
-from trials.processes import SOON, ended, executable, wait_until
+from trials.processes import SOON, ended, executable, limited, wait_until
 
 LINE = "audit: refused record 8: UnknownReply"
 
@@ -25,10 +25,10 @@ def blank(room):
     return tree
 
 
-def audited(room, *words, options=(), program=PROGRAM, **more):
-    """The recorder with an audit from the blank tree, in front of the stub."""
-    return room.stub("t", *words, options=["--audit", "--overwrite", "--program", program, "--tree", blank(room),
-                                           "--log", "log", *options], **more)
+def audited(room, *words, options=(), program=PROGRAM, start=Room.session, **more):
+    """A session with an audit from the blank tree, in front of the stub."""
+    return start(room, "t", *words, options=["--audit", "--overwrite", "--program", program, "--tree", blank(room),
+                                             "--log", "log", *options], **more)
 
 
 def log(room):
@@ -42,13 +42,19 @@ def make_three(process):
         receive(process, 21)
 
 
+def make_one(process, name=b"/a"):
+    """Asks for a directory, and goes away. Returns the recorder's status."""
+    process.stdin.write(request(1, "MKDIR", name, {}))
+    receive(process, 21)
+    return leave(process)
+
+
 def says_soon(room, text):
     return wait_until(lambda: text in log(room))
 
 
 def wrong_replies(steps, room):
     process = audited(room, "wrong")
-    open_session(process)
     process.stdin.write(request(1, "MKDIR", b"/a", {}))
     receive(process, 21)
     process.stdin.write(request(2, "MKDIR", b"/b", {}))
@@ -59,15 +65,13 @@ def wrong_replies(steps, room):
                 log(room))
     process.stdin.write(request(4, "RMDIR", b"/b"))
     steps.check("the session goes on after it", len(receive(process, 21)) == 21)
-    close(process.stdin)
-    steps.check("its status is the server's", ended(process, SOON) == 0)
+    steps.check("its status is the server's", leave(process) == 0)
     steps.check("standard error has the line, too", LINE in errors(process))
     steps.check("the transcript has all", whole(room) == (True, 10), str(whole(room)))
 
 
 def stopped(steps, room):
     process = audited(room, "wrong", options=["--stop"])
-    open_session(process)
     make_three(process)
     steps.check("--stop: the session is cut, with status 1", ended(process, SOON) == 1, str(process.poll()))
     steps.check("--stop: the client sees the end", receive(process, 1) == b"")
@@ -76,11 +80,7 @@ def stopped(steps, room):
 
 def accepted(steps, room):
     process = audited(room, options=["--stop"])
-    open_session(process)
-    process.stdin.write(request(1, "MKDIR", b"/a", {}))
-    receive(process, 21)
-    close(process.stdin)
-    steps.check("a right session: status 0", ended(process, SOON) == 0)
+    steps.check("a right session: status 0", make_one(process) == 0)
     steps.check("a right session: the log has the verdict, standard error nothing",
                 "audit: accepted 1 requests" in log(room) and errors(process) == "", log(room))
 
@@ -89,13 +89,9 @@ def long_trees(steps, room):
     """A tree at the end that is longer than a file may be: the log says so."""
     tree = room.folder / "long.tree"
     trees.write(trees.Tree([trees.Entry(b"/f", trees.FILE, bytes(3000))]), str(tree))
-    process = room.stub("t", options=["--audit", "--program", PROGRAM, "--tree", tree, "--out", "out", "--log", "log"],
-                        preexec_fn=lambda: resource.setrlimit(resource.RLIMIT_FSIZE, (2048, 2048)))
-    open_session(process)
-    process.stdin.write(request(1, "MKDIR", b"/a", {}))
-    receive(process, 21)
-    close(process.stdin)
-    ended(process, SOON)
+    process = room.session("t", preexec_fn=limited(resource.RLIMIT_FSIZE, 2048), options=[
+        "--audit", "--program", PROGRAM, "--tree", tree, "--out", "out", "--log", "log"])
+    make_one(process)
     steps.check("a last tree that is longer than a file may be: the log says so",
                 "ended with status 3: sftpv3: cannot write out" in log(room) and "File too large" in log(room),
                 log(room))
@@ -115,7 +111,6 @@ def bad_auditors(steps, room):
         else:
             (room.folder / "blank.tree").write_text("no tree")
         process = audited(room, options=["--stop"], program=program if text else PROGRAM)
-        open_session(process)
         time.sleep(0.2)
         process.stdin.write(request(1, "STAT", b"/"))
         steps.check(f"an auditor that {name}: the session goes on", len(receive(process, 21)) == 21)
@@ -124,10 +119,9 @@ def bad_auditors(steps, room):
         said = errors(process)
         steps.check(f"an auditor that {name}: a line says so", seen in said, said)
         steps.check(f"an auditor that {name}: the transcript has all", whole(room) == (True, 4), str(whole(room)))
-    process = audited(room, program="/nowhere/sftpv3")
+    process = audited(room, program="/nowhere/sftpv3", start=Room.stub)
     steps.check("an auditor that does not exist: the session goes on", len(open_session(process)) == 9)
-    close(process.stdin)
-    steps.check("an auditor that does not exist: status 0, and a line", ended(process, SOON) == 0 and
+    steps.check("an auditor that does not exist: status 0, and a line", leave(process) == 0 and
                 "cannot run the audit" in errors(process))
 
 
@@ -152,7 +146,6 @@ def system_log(steps, room):
         listener.bind("/dev/log")
         try:
             process = audited(room, "wrong", options=["--syslog"])
-            open_session(process)
             make_three(process)
             listener.settimeout(SOON)
             said = ""
@@ -166,7 +159,6 @@ def system_log(steps, room):
 
 def logs(steps, room):
     process = audited(room, "wrong")
-    open_session(process)
     make_three(process)
     says_soon(room, LINE)
     lines = log(room).splitlines()
@@ -179,15 +171,12 @@ def logs(steps, room):
     (room.folder / "log").unlink()
     (room.folder / "log").symlink_to("victim")
     process = audited(room)
-    open_session(process)
-    close(process.stdin)
-    steps.check("--log: no link is followed", ended(process, SOON) == 0 and room.read("victim") == b"dear")
+    steps.check("--log: no link is followed", leave(process) == 0 and room.read("victim") == b"dear")
 
 
 def lost_records(steps, room):
     """A transcript that cannot be written any more is no fault of the server: the audit reads on without it."""
     process = audited(room, "wrong", options=["--stop"], preexec_fn=limited(resource.RLIMIT_FSIZE, 60))
-    open_session(process)
     make_three(process)
     steps.check("a lost record: the audit goes on, and finds the wrong reply", ended(process, SOON) == 1,
                 str(process.poll()))
@@ -198,11 +187,9 @@ def lost_records(steps, room):
 def long_packets(steps, room):
     """A packet that no transcript can hold ends the record and the audit, and is no refusal."""
     process = audited(room, options=["--stop"])
-    open_session(process)
     process.stdin.write(struct.pack(">IB", 300_000, 200) + bytes(299_999))
     steps.check("a packet that is too long: the audited session goes on", len(receive(process, 17)) == 17)
-    close(process.stdin)
-    steps.check("a packet that is too long: status 0", ended(process, SOON) == 0, str(process.poll()))
+    steps.check("a packet that is too long: status 0", leave(process) == 0, str(process.poll()))
     said = errors(process)
     steps.check("a packet that is too long: neither recorded nor audited", "not recorded any further" in said and
                 "audit is given up" in said, said)
@@ -214,11 +201,9 @@ def full_logs(steps, room):
     """A log that takes only a part of a line is told of."""
     (room.folder / "log").write_bytes(bytes(1000))
     process = audited(room, "wrong", preexec_fn=limited(resource.RLIMIT_FSIZE, 1010))
-    open_session(process)
     make_three(process)
     time.sleep(0.5)
-    close(process.stdin)
-    steps.check("a full log: the session goes on", ended(process, SOON) == 0, str(process.poll()))
+    steps.check("a full log: the session goes on", leave(process) == 0, str(process.poll()))
     said = errors(process)
     steps.check("a full log: a line says so", "cannot write the log: " in said and LINE in said, said)
 
@@ -229,13 +214,10 @@ def chained(steps, room):
     tree = room.folder / f"{name}.tree"
     tree.write_bytes(blank(room).read_bytes())
     for number in (1, 2):
-        process = room.stub("t", options=["--audit", "--overwrite", "--program", PROGRAM, "--tree", "%u.tree", "--out",
-                                          "%u.tree", "--log", "log"])
-        open_session(process)
-        process.stdin.write(request(1, "MKDIR", b"/a" if number == 1 else b"/b", {}))
-        receive(process, 21)
-        close(process.stdin)
-        steps.check(f"--out: session {number} ends", ended(process, SOON) == 0, errors(process))
+        process = room.session("t", options=["--audit", "--overwrite", "--program", PROGRAM, "--tree", "%u.tree",
+                                             "--out", "%u.tree", "--log", "log"])
+        status = make_one(process, b"/a" if number == 1 else b"/b")
+        steps.check(f"--out: session {number} ends", status == 0, errors(process))
     steps.check("--out: both are accepted", log(room).count("audit: accepted 1 requests") == 2, log(room))
     shown = subprocess.run([PROGRAM, "show", tree], stdout=subprocess.PIPE, text=True, check=False).stdout
     steps.check("--out: the tree has what both made", '"/a"' in shown and '"/b"' in shown, shown)

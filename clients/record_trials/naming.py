@@ -7,11 +7,11 @@ import subprocess
 import time
 
 from record_trials.failing import run
-from record_trials.steps import INIT, RECORD, STUB, close, open_session
+from record_trials.steps import INIT, RECORD, STUB, leave, open_session
 from recording.options import plainly_read
 from recording.parsers import record_parser
 from sftp3 import request
-from trials.processes import SOON, ended
+from trials.processes import SOON
 
 
 def names(steps, room):
@@ -36,8 +36,7 @@ def taken_names(steps, room):
     first.stdin.write(request(1, "STAT", b"/one"))
     second.stdin.write(request(2, "STAT", b"/two"))
     for process in (first, second):
-        close(process.stdin)
-        steps.check("two sessions with one name: status 0", ended(process, SOON) == 0)
+        steps.check("two sessions with one name: status 0", leave(process) == 0)
     texts = sorted(it for it in (room.read("t"), room.read("t.2")) if it)
     steps.check("two sessions with one name have a transcript each",
                 [b"/one" in texts[0], b"/two" in texts[0]].count(True) == 1 and
@@ -75,15 +74,13 @@ def locks(steps, room):
     def is_locked():
         return subprocess.run(["flock", "-n", room.folder / "t", "true"], check=False).returncode == 1
 
-    process = room.stub("t")
-    open_session(process)
+    process = room.session("t")
     steps.check("a transcript is locked while its session runs", is_locked())
     ran = run(room, "--overwrite", "--required", "t", STUB, data=INIT)
     steps.check("a second session does not replace it", ran.returncode == 3 and b"another session" in ran.stderr,
                 str(ran.stderr))
     steps.check("and leaves it as it is", len(room.read("t")) == 28)
-    close(process.stdin)
-    ended(process, SOON)
+    leave(process)
     steps.check("then it is not locked any more", not is_locked())
 
 
@@ -131,8 +128,7 @@ def folders(steps, room):
     ran = run(room, "open/below/t", STUB, data=INIT)
     steps.check("a folder below one that others can write to: a warning", b"/open is writable" in ran.stderr,
                 str(ran.stderr))
-    if os.geteuid() != 0:
-        steps.skip("a folder of another user", "root alone can make one")
+    if steps.lacks_root("a folder of another user", "root alone can make one"):
         return
     for group, is_warned in ((0, False), (12345, True)):
         os.chown(room.folder / "sticky", 0, group)

@@ -10,9 +10,9 @@ import time
 from pathlib import Path
 
 import sftp3
-from record_trials.steps import INIT, STUB, TOP, close, errors, open_session, receive
+from record_trials.steps import INIT, STUB, TOP, close, errors, leave, open_session, receive
 from sftp3 import request
-from trials.processes import SOON, ended, executable, make_user, remove_user, wait_until
+from trials.processes import SOON, ended, executable, make_user, remove_user, run, wait_until
 
 DAEMON = os.environ.get("RECORDD", str(TOP / "clients/recordd"))
 OTHER = "sftpv3-trial"
@@ -54,8 +54,7 @@ def kept(steps, room):
     asked = [request(it, "READ", b"h", 0, 32768) for it in range(100)]
     process.stdin.write(b"".join(asked))
     got = receive(process, 100 * (13 + 32768))
-    close(process.stdin)
-    steps.check("a session into a spool: status 0", ended(process, SOON) == 0, errors(process))
+    steps.check("a session into a spool: status 0", leave(process) == 0, errors(process))
     found = spool.records()
     steps.check("there is one record", len(found) == 1, str(found))
     steps.check("it is named with user, time, address and process", found[0].parent.name == user() and
@@ -76,8 +75,7 @@ def lost_spools(steps, room):
         steps.check(f"{name}: it ends", spool.end() == 0)
         process.stdin.write(request(1, "STAT", b"/"))
         got = receive(process, 21)
-        close(process.stdin)
-        status = ended(process, SOON)
+        status = leave(process)
         steps.check(f"{name}: {'the session ends with it' if is_required else 'the session goes on'}",
                     (len(got), status) == ((0, 3) if is_required else (21, 0)), f"{len(got)} {status}")
         steps.check(f"{name}: a line says so", "takes no more" in errors(process))
@@ -85,8 +83,7 @@ def lost_spools(steps, room):
         process = room.start("--spool", room.folder / "nowhere", *options, STUB)
         process.stdin.write(INIT)
         got = receive(process, 9)
-        close(process.stdin)
-        steps.check(f"no daemon {' '.join(options)}: status {status}", ended(process, SOON) == status and
+        steps.check(f"no daemon {' '.join(options)}: status {status}", leave(process) == status and
                     len(got) == (0 if status else 9), str(process.poll()))
 
 
@@ -123,8 +120,7 @@ def begun_and_left(steps, room):
     steps.check("a record that was begun and left is none", wait_until(lambda: not spool.records()), spool.records())
     process = spool.session()
     open_session(process)
-    close(process.stdin)
-    ended(process, SOON)
+    leave(process)
     steps.check("one with a session stays", spool.end() == 0 and len(spool.records()) == 1, spool.records())
 
 
@@ -176,8 +172,7 @@ def hostile(steps, room):
     silent.connect(str(spool.socket))
     process = spool.session()
     open_session(process)
-    close(process.stdin)
-    steps.check("a connection that says nothing does not hinder others", ended(process, SOON) == 0)
+    steps.check("a connection that says nothing does not hinder others", leave(process) == 0)
     silent.settimeout(SOON)
     steps.check("and is closed", silent.recv(1) == b"")
     silent.close()
@@ -213,8 +208,7 @@ def one_behind_another(steps, room):
     steps.check("the first one ends", first.end() == 0)
     process = second.session(options=["--required"])
     steps.check("the second one has its socket still", len(open_session(process)) == 9 and second.socket.exists())
-    close(process.stdin)
-    ended(process, SOON)
+    leave(process)
     steps.check("which goes with it", second.end() == 0 and not second.socket.exists())
 
 
@@ -232,8 +226,7 @@ def activated(steps, room):
     wait_until(path.exists)
     process = room.start("--required", "--spool", path, STUB)
     steps.check("with socket activation: the session runs", len(open_session(process)) == 9)
-    close(process.stdin)
-    steps.check("with socket activation: it is recorded", ended(process, SOON) == 0 and
+    steps.check("with socket activation: it is recorded", leave(process) == 0 and
                 len(list(folder.glob("*/*.transcript"))) == 1)
 
 
@@ -256,8 +249,7 @@ def few_files(steps, room):
     time.sleep(1)
     process = spool.session(options=["--required"])
     steps.check("and records again once it has some", len(open_session(process)) == 9)
-    close(process.stdin)
-    ended(process, SOON)
+    leave(process)
 
 
 def units(steps, room):
@@ -276,16 +268,14 @@ def units(steps, room):
             (room.folder / unit.name).write_text(unit.read_text().replace("@BIN@", str(room.folder)))
             if made[-1].name != unit.name:
                 made[-1].symlink_to(unit.name)
-    ran = subprocess.run([words, "verify", "--man=no", *made], stdout=subprocess.PIPE, stderr=subprocess.STDOUT,
-                         text=True, check=False)
+    ran = run([words, "verify", "--man=no", *made])
     ours = [it for it in ran.stdout.splitlines() if "sftpv3" in it]
     steps.check("systemd-analyze verifies the units", ran.returncode == 0 and not ours and len(made) == 4, ran.stdout)
 
 
 def other_user(steps, room):
     """A login user can use the spool, and neither read, change, rename nor remove what is in it."""
-    if os.geteuid() != 0:
-        steps.skip("a spool and a second user", "root alone can make one")
+    if steps.lacks_root("a spool and a second user", "root alone can make one"):
         return
     make_user(OTHER)
     try:
@@ -301,8 +291,7 @@ def other_user(steps, room):
                                    stderr=subprocess.PIPE, bufsize=0, cwd="/", **become)
         room.started.append(process)
         steps.check("a second user is recorded", len(open_session(process)) == 9)
-        close(process.stdin)
-        steps.check("with status 0", ended(process, SOON) == 0, errors(process))
+        steps.check("with status 0", leave(process) == 0, errors(process))
         found = spool.records()
         steps.check("under the name of that user", [it.parent.name for it in found] == [OTHER], str(found))
         before = found[0].read_bytes()

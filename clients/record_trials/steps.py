@@ -1,16 +1,16 @@
 """Starts recorders, and speaks to them."""
 import os
 import subprocess
-import sys
 import tempfile
 from pathlib import Path
 
-TOP = Path(__file__).resolve().parents[2]
-sys.path.insert(0, str(TOP / "clients"))
 import sftp3
+from probing import program
 from recording import temporary
 from trials import sessions
+from trials.processes import SOON, ended
 
+TOP = Path(program.TOP)
 RECORD = os.environ.get("RECORD", str(TOP / "clients/record"))
 STUB = str(TOP / "clients/record_trials/stub.py")
 PROGRAM = os.environ.get("SFTPV3", str(TOP / "out/sftpv3"))
@@ -51,6 +51,12 @@ class Room:
         """Starts the recorder with the stub as its server."""
         return self.start(*options, transcript, STUB, *words, **more)
 
+    def session(self, transcript, *words, **more):
+        """The same, with a session that is open."""
+        process = self.stub(transcript, *words, **more)
+        open_session(process)
+        return process
+
     def read(self, name):
         return (self.folder / name).read_bytes()
 
@@ -84,6 +90,12 @@ def open_session(process):
     """Sends an INIT and awaits the stub's VERSION."""
     process.stdin.write(INIT)
     return receive(process, 9)
+
+
+def leave(process):
+    """The client goes away. Returns the recorder's status, or None if it does not end soon."""
+    close(process.stdin)
+    return ended(process, SOON)
 
 
 def errors(process):

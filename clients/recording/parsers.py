@@ -46,6 +46,16 @@ the system knows them; the address is what the recorder says. SIZE is a number o
 T."""
 
 
+def number_from(least, most, kind=int):
+    """Reads numbers from `least` on and below `most`."""
+    def number(text):
+        found = kind(text)
+        if not least <= found < most:
+            raise ValueError(text)
+        return found
+    return number
+
+
 def size(text):
     units = {"K": 10, "M": 20, "G": 30, "T": 40}
     number = text[:-1] if text[-1:] in units else text

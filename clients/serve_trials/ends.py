@@ -6,7 +6,7 @@ import subprocess
 import time
 
 import sftp3
-from serve_trials.steps import IS_PLAIN, KINDS, SIGNALS
+from serve_trials.steps import IS_PLAIN, KINDS, SIGNALS, Server
 from trials.processes import SOON, children_of, wait_until
 
 BLOCK = bytes(range(256)) * 128
@@ -18,10 +18,8 @@ def at_rest(steps, room):
     for kind in KINDS:
         for number in SIGNALS:
             name = f"{number.name} at rest, over {kind}"
-            server = room.saving(kind=kind, save=f"{number.name}.{kind}")
-            server.make("/a")
-            server.process.send_signal(number)
-            status = server.status()
+            server = room.working(kind=kind, save=f"{number.name}.{kind}")
+            status = server.end_by(number)
             steps.check(f"{name}: status 0", status == 0, f"{status}")
             if steps.check(f"{name}: the tree is saved", f"{number.name}.{kind}" in room.left(), f"{room.left()}"):
                 steps.check(f"{name}: with what was done", room.names(f"{number.name}.{kind}") == ["/a"])
@@ -31,8 +29,7 @@ def at_rest(steps, room):
 def to_all(steps, room):
     """A terminal sends its signals to all processes of a group."""
     for kind in KINDS:
-        server = room.saving(kind=kind, save=kind)
-        server.make("/a")
+        server = room.working(kind=kind, save=kind)
         os.killpg(server.process.pid, signal.SIGINT)
         status = server.status()
         steps.check(f"SIGINT to all of the group, over {kind}: the tree is saved, status 0",
@@ -57,8 +54,7 @@ def before_opening(steps, room):
         server = room.serve("--save", kind, kind=kind)
         # a signal before that ends what is no session yet
         wait_until(lambda: children_of(server.process.pid), 0.5 if IS_PLAIN else SOON)
-        server.process.send_signal(signal.SIGTERM)
-        status = server.status()
+        status = server.end_by(signal.SIGTERM)
         steps.check(f"SIGTERM before an INIT, over {kind}: it ends by itself", status is not None and status >= 0,
                     f"{status}")
         names = room.left()
@@ -176,47 +172,36 @@ def what_came(steps, room):
 
 def waiting_client(steps, room):
     """A client that takes no reply keeps a server from saving, until its end is cut."""
-    server = room.saving("--grace", "0.5", kind="sockets")
-    server.make("/a")
+    server = room.working("--grace", "0.5", kind="sockets")
     handle = server.create("/f")
     server.ask("WRITE", handle, 0, BLOCK)
     reading = server.handle("OPEN", b"/f", sftp3.READ, {})
     server.send(b"".join(sftp3.request(it, "READ", reading, 0, len(BLOCK)) for it in range(100, 300)))
     time.sleep(0.3)
-    server.process.send_signal(signal.SIGTERM)
-    status = server.status()
+    status = server.end_by(signal.SIGTERM)
     steps.check("a client that does not read, and a SIGTERM: it ends, status 3", status == 3, f"{status}")
     steps.check("a client that does not read, and a SIGTERM: the tree is saved", room.names() == ["/a", "/f"])
 
 
 def leaving_clients(steps, room):
     for kind in KINDS:
-        server = room.saving(kind=kind, save=f"input.{kind}")
-        server.make("/a")
-        server.close_input()
-        status = server.status()
-        steps.check(f"a client ends its input, over {kind}: status 0, and the tree is saved",
-                    status == 0 and room.names(f"input.{kind}") == ["/a"], f"{status}")
-        server = room.saving(kind=kind, save=f"gone.{kind}")
-        server.make("/a")
-        server.close()
-        status = server.status()
-        steps.check(f"a client vanishes, over {kind}: status 0, and the tree is saved",
-                    status == 0 and room.names(f"gone.{kind}") == ["/a"], f"{status}")
-        server = room.saving(kind=kind, save=f"cut.{kind}")
-        server.make("/a")
+        for name, leave, told in (("input", Server.close_input, "ends its input"), ("gone", Server.close, "vanishes")):
+            server = room.working(kind=kind, save=f"{name}.{kind}")
+            leave(server)
+            status = server.status()
+            steps.check(f"a client {told}, over {kind}: status 0, and the tree is saved",
+                        status == 0 and room.names(f"{name}.{kind}") == ["/a"], f"{status}")
+        server = room.working(kind=kind, save=f"cut.{kind}")
         server.send(b"".join(sftp3.request(it, "READDIR", b"none") for it in range(100)) + b"\0\0")
         server.close()
-        server.process.send_signal(signal.SIGHUP)
-        status = server.status()
+        status = server.end_by(signal.SIGHUP)
         steps.check(f"a client vanishes without its replies, and a SIGHUP, over {kind}: the tree is saved",
                     status in (1, 3) and room.names(f"cut.{kind}") == ["/a"], f"{status}")
 
 
 def broken_protocol(steps, room):
     for kind in KINDS:
-        server = room.saving(kind=kind, save=kind)
-        server.make("/a")
+        server = room.working(kind=kind, save=kind)
         server.send(b"\0\0\0\1\xff")
         status = server.status()
         steps.check(f"a packet that is none, over {kind}: status 1, and the tree is saved",
@@ -238,8 +223,7 @@ def ignored(steps, room):
 
 def killed_server(steps, room):
     for kind in KINDS:
-        server = room.saving(kind=kind)
-        server.make("/a")
+        server = room.working(kind=kind)
         children = children_of(server.process.pid)
         os.kill(children[0] if children else server.process.pid, signal.SIGKILL)
         status = server.status()
@@ -251,8 +235,7 @@ def killed_server(steps, room):
 def killed_script(steps, room):
     """What only the script knew is lost with it, and nothing else."""
     for kind in KINDS:
-        server = room.saving(kind=kind)
-        server.make("/a")
+        server = room.working(kind=kind)
         server.process.kill()
         server.status()
         server.close()
@@ -288,8 +271,7 @@ def tree_from_pipe(steps, room):
                 if given:
                     os.write(writer, given)
                 wait_until(lambda: children_of(server.process.pid))
-                server.process.send_signal(number)
-                status = server.status(20)
+                status = server.end_by(number, 20)
                 steps.check(f"{name}: it ends by itself, and nothing is saved", (status or -1) > 0 and
                             room.left() == ["fifo", "t"], f"{status}, {room.left()}")
                 if given:
@@ -298,8 +280,7 @@ def tree_from_pipe(steps, room):
         server = room.serve("--save", kind, tree="fifo", kind=kind)
         (room.folder / "fifo").write_bytes(tree)
         steps.check(f"a tree from a FIFO, over {kind}: a session begins", server.open() and server.make("/a"))
-        server.process.send_signal(signal.SIGTERM)
-        status = server.status()
+        status = server.end_by(signal.SIGTERM)
         steps.check(f"a tree from a FIFO, over {kind}: SIGTERM has it saved, status 0", status == 0 and
                     room.names(kind) == ["/a"], f"{status}, {room.left()}")
         (room.folder / kind).unlink(missing_ok=True)
@@ -312,8 +293,7 @@ def other_pipes(steps, room):
         server = room.serve("--save", "saved", option, "fifo")
         steps.check(f"{option} FIFO: it waits", wait_until(lambda: children_of(server.process.pid)) and
                     server.status(1) is None)
-        server.process.send_signal(signal.SIGTERM)
-        status = server.status(20)
+        status = server.end_by(signal.SIGTERM, 20)
         steps.check(f"{option} FIFO whose other end nobody opens: SIGTERM ends it", (status or -1) > 0, f"{status}")
         names = set(room.left()) - {"saved"}
         steps.check(f"{option} FIFO: nothing is left beside the file of --save", names == {"fifo", "t"}, f"{names}")

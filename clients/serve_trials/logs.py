@@ -6,7 +6,7 @@ import subprocess
 
 from serve_trials.saving import USER, finish
 from serve_trials.steps import IS_PLAIN, SERVE
-from trials.processes import SOON, executable, make_user, remove_user
+from trials.processes import SOON, executable, make_user, remove_user, run
 
 LINE = re.compile(r"\d{4}-\d\d-\d\dT\d\d:\d\d:\d\dZ [\w-]+\[(\d+)\] (.*)")
 
@@ -59,8 +59,7 @@ def logs_that_cannot_be_opened(steps, room):
 
 
 def logs_of_others(steps, room):
-    if os.geteuid() != 0:
-        steps.skip("a log of another user", "it needs root")
+    if steps.lacks_root("a log of another user"):
         return
     make_user(USER)
     try:
@@ -79,29 +78,30 @@ def logs_of_others(steps, room):
 def full_log(steps, room):
     """A log that takes no more: the session goes on, and its lines go to standard error."""
     os.symlink("/dev/full", room.folder / "unused")
-    server = room.saving("--verbose", "--log", "/dev/full")
-    server.make("/a")
+    server = room.working("--verbose", "--log", "/dev/full")
     status = finish(server)
     said = server.errors()
     steps.check("a log that is full: the tree is saved, and the lines are on standard error", status == 0 and
                 room.names() == ["/a"] and "session ended" in said, f"{status}: {said}")
 
 
+def serve_alone(room, *words):
+    """Runs a server to which nothing is sent."""
+    return run([*SERVE, *words], cwd=room.folder, stdin=subprocess.DEVNULL)
+
+
 def usage(steps, room):
-    def run(*words):
-        return subprocess.run([*SERVE, *words], cwd=room.folder, stdin=subprocess.DEVNULL, stdout=subprocess.PIPE,
-                              stderr=subprocess.STDOUT, text=True, timeout=SOON)
     for name, words in (("no --tree", []), ("an unknown option", ["--tree", "t", "--unknown"]),
                         ("an option without its value", ["--tree"]), ("a word too many", ["--tree", "t", "more"]),
                         ("no time", ["--tree", "t", "--grace", "soon"]), ("two trees", ["--tree", "t", "--tree", "t"]),
                         ("no value of --log", ["--tree", "t", "--log"]),
                         ("an empty --save", ["--tree", "t", "--save", ""])):
-        ran = run(*words)
+        ran = serve_alone(room, *words)
         steps.check(f"{name}: status 2 or 3, a complaint, no traceback", ran.returncode in (2, 3) and ran.stdout and
                     "Traceback" not in ran.stdout, f"{ran.returncode}: {ran.stdout}")
-    ran = run("--tree", "absent", "--save", "end")
+    ran = serve_alone(room, "--tree", "absent", "--save", "end")
     steps.check("no tree: status 3, and nothing is made", ran.returncode == 3 and room.left() == ["t"], ran.stdout)
-    ran = run("--help")
+    ran = serve_alone(room, "--help")
     steps.check("--help: status 0, with the options of serve", ran.returncode == 0 and
                 all(it in ran.stdout for it in ("--tree", "--save", "--shuffle", "--no-sync")), ran.stdout)
     if not IS_PLAIN:
@@ -122,8 +122,7 @@ def files_named_twice(steps, room):
     for words in (("--log", "t"), ("--log", "hard"), ("--log=new", "--save", "new"), ("--log", "new", "--record=new"),
                   ("--log", "hard", "--save", "t"), ("--replay", "hard", "--save", "t"),
                   ("--log", "r", "--replay", "r"), ("--save", "new", "--record", "./new")):
-        ran = subprocess.run([*SERVE, "--tree", "t", *words], cwd=room.folder, stdin=subprocess.DEVNULL,
-                             stdout=subprocess.PIPE, stderr=subprocess.STDOUT, text=True, timeout=SOON)
+        ran = serve_alone(room, "--tree", "t", *words)
         steps.check(f"{' '.join(words)}: status 2, and a line", ran.returncode == 2 and "name one file" in ran.stdout,
                     f"{ran.returncode}: {ran.stdout}")
         steps.check(f"{' '.join(words)}: no file is changed", (room.folder / "t").read_bytes() == before and

@@ -6,7 +6,7 @@ import time
 
 from serve_trials import steps as trials
 from trials.clients import ServerOfLftp, has, paramiko_words, python_with_paramiko
-from trials.processes import SOON, below_of, wait_until
+from trials.processes import below_of, run, wait_until
 from trials.sshd import SSHD, Sshd
 
 LARGE = bytes(range(256)) * 40_000
@@ -15,11 +15,6 @@ LARGE = bytes(range(256)) * 40_000
 def command(room, *words):
     """The command of a server that saves, with whole names."""
     return " ".join(trials.command("--tree", f"{room.folder}/t", "--save", f"{room.folder}/t", *words))
-
-
-def run(words, **options):
-    return subprocess.run(list(map(str, words)), stdout=subprocess.PIPE, stderr=subprocess.STDOUT, text=True,
-                          timeout=SOON, **options)
 
 
 def begun(words, commands, room, **options):

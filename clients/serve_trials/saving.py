@@ -5,7 +5,8 @@ import signal
 import subprocess
 
 from serve_trials.steps import PROGRAM, SIGNALS
-from trials.processes import make_user, remove_user
+from trials.disks import fill, small_disk
+from trials.processes import limited, make_user, remove_user
 
 USER = "sftpv3-served"
 
@@ -81,8 +82,7 @@ def another_file(steps, room):
 
 
 def changed_meanwhile(steps, room):
-    server = room.saving()
-    server.make("/a")
+    server = room.working()
     (room.folder / "t").write_bytes((room.folder / "t").read_bytes() + b"x")
     finish(server)
     steps.check("a file that was changed in place is not replaced", room.names("t.2") == ["/a"] and
@@ -108,8 +108,7 @@ def links(steps, room):
     (room.folder / "d").mkdir()
     (room.folder / "t").rename(room.folder / "d/real")
     (room.folder / "t").symlink_to("d/real")
-    server = room.saving()
-    server.make("/a")
+    server = room.working()
     finish(server)
     steps.check("a link: the file that it leads to is replaced", (room.folder / "t").is_symlink() and
                 room.names("d/real") == ["/a"] and os.listdir(room.folder / "d") == ["real"])
@@ -147,30 +146,25 @@ def no_files(steps, room):
 
 
 def full_disk(steps, room):
-    if os.geteuid() != 0:
-        steps.skip("a full disk", "it needs root")
+    if steps.lacks_root("a full disk"):
         return
     small = room.folder / "small"
-    small.mkdir()
-    if subprocess.run(["mount", "-t", "tmpfs", "-o", "size=1m", "none", small], capture_output=True).returncode:
-        steps.skip("a full disk", "there can be no mounts here")
-        return
-    try:
-        on_a_full_disk(steps, room, small)
-    finally:
-        subprocess.run(["umount", "-l", small], check=True)
+    with small_disk(small, "1m") as is_there:
+        if not is_there:
+            steps.skip("a full disk", "there can be no mounts here")
+            return
+        try:
+            on_a_full_disk(steps, room, small)
+        finally:
+            # a disk in use stays
+            room.end_servers()
 
 
 def on_a_full_disk(steps, room, small):
     before = (room.folder / "t").read_bytes()
     (small / "t").write_bytes(before)
     (small / "filling").write_bytes(bytes((1 << 20) - 8192))
-    with open(small / "rest", "wb", 0) as rest:
-        try:
-            while True:
-                rest.write(bytes(1024))
-        except OSError:
-            pass
+    fill(small / "rest")
     server = room.serve("--save", "small/t", "--log", "log")
     steps.check("a full disk: status 3 before the session", not server.open() and server.status() == 3)
     said = (room.folder / "log").read_text() if (room.folder / "log").exists() else server.errors()
@@ -179,12 +173,7 @@ def on_a_full_disk(steps, room, small):
     server = room.saving(save="small/t")
     handle = server.create("/f")
     server.ask("WRITE", handle, 0, bytes(30_000))
-    with open(small / "filling", "wb", 0) as filling:
-        try:
-            while True:
-                filling.write(bytes(1024))
-        except OSError:
-            pass
+    fill(small / "filling")
     status = finish(server)
     said = server.errors()
     steps.check("a disk that fills up meanwhile: status 3, and why", status == 3 and "No space left" in said,
@@ -196,8 +185,7 @@ def on_a_full_disk(steps, room, small):
 
 def other_users(steps, room):
     """Folders that another user cannot write, and files of others in a folder of all."""
-    if os.geteuid() != 0:
-        steps.skip("folders and files of other users", "they need root")
+    if steps.lacks_root("folders and files of other users", "they need root"):
         return
     make_user(USER)
     try:
@@ -214,8 +202,7 @@ def other_users(steps, room):
         said = (room.folder / "log").read_text() if (room.folder / "log").exists() else ""
         steps.check("a file of another user in a folder of all: the log says so", "cannot write" in said, said)
         os.chmod(room.folder, 0o777)
-        server = room.saving(**more)
-        server.make("/a")
+        server = room.working(**more)
         status = finish(server)
         steps.check("a file of another user that may be replaced: it is", status == 0 and room.names() == ["/a"] and
                     room.left() == ["log", "t"], f"{status} {room.left()}")
@@ -235,8 +222,7 @@ def other_users(steps, room):
 
 def lost_folder(steps, room):
     (room.folder / "d").mkdir()
-    server = room.saving(save="d/t")
-    server.make("/a")
+    server = room.working(save="d/t")
     (room.folder / "d").rename(room.folder / "e")
     status = finish(server)
     said = server.errors()
@@ -246,13 +232,11 @@ def lost_folder(steps, room):
 
 def held_lock(steps, room):
     """Another process that holds the file's lock does not keep a session from ending."""
-    server = room.saving()
-    server.make("/a")
+    server = room.working()
     holds = ["flock", room.folder / "t", "sh", "-c", "echo held; exec sleep 1000"]
     with subprocess.Popen(holds, stdout=subprocess.PIPE) as holder:
         holder.stdout.readline()
-        server.process.send_signal(signal.SIGTERM)
-        status = server.status()
+        status = server.end_by(signal.SIGTERM)
         subprocess.run(["pkill", "-P", str(holder.pid)])
         holder.kill()
     steps.check("a lock that another process holds: the tree goes beside", status == 0 and
@@ -275,7 +259,7 @@ def few_descriptors(steps, room):
     """Where the system does not let a session begin, nothing is left beside the file of --save."""
     for count in range(5, 16):
         server = room.serve("--save", "saved", "--log", "log", kind="pipes",
-                            preexec_fn=lambda: resource.setrlimit(resource.RLIMIT_NOFILE, (count, count)))
+                            preexec_fn=limited(resource.RLIMIT_NOFILE, count))
         server.close_input()
         status, said = server.status(), server.errors()
         begun = ["saved"] if status in (0, 1) else []

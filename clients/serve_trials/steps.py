@@ -5,20 +5,18 @@ import shutil
 import signal
 import socket
 import subprocess
-import sys
 import tarfile
 import tempfile
 from pathlib import Path
 
-TOP = Path(__file__).resolve().parents[2]
-sys.path.insert(0, str(TOP / "clients"))
 import sftp3
-from probing.program import program
+from probing import program
 from recording import temporary
 from trials.processes import SOON, children_of, ended, kill
 from trials.sessions import Client
 
-PROGRAM = program()
+TOP = Path(program.TOP)
+PROGRAM = program.program()
 # what is tried, as words: `SERVE="FILE serve"` tries the program without the script
 SERVE = os.environ["SERVE"].split() if "SERVE" in os.environ else [str(TOP / "clients/serve"), "--program", PROGRAM]
 IS_PLAIN = "SERVE" in os.environ
@@ -95,6 +93,11 @@ class Server(Client):
         """Its status, or None if it has not ended within so many seconds."""
         return ended(self.process, seconds)
 
+    def end_by(self, number, seconds=SOON):
+        """Sends it a signal. Returns its status, or None if it has not ended within so many seconds."""
+        self.process.send_signal(number)
+        return self.status(seconds)
+
     def errors(self):
         """What it printed to standard error. One that should have ended by now is killed."""
         if self.process.poll() is None:
@@ -145,6 +148,12 @@ class Room:
         server = self.serve("--save", save, *words, kind=kind, **more)
         if not server.open():
             raise AssertionError(f"no session: {server.status()}")
+        return server
+
+    def working(self, *words, **more):
+        """The same, with a directory /a that the client has made."""
+        server = self.saving(*words, **more)
+        server.make("/a")
         return server
 
     def names(self, name="t"):

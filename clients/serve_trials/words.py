@@ -5,9 +5,9 @@ import subprocess
 
 import sftp3
 from serve_trials import steps as trials
-from serve_trials.programs import run
 from serve_trials.steps import PROGRAM
 from trials.clients import Mount, ServerOfLftp, has
+from trials.processes import run
 
 LINES = ['D "/" 0 0 0755', 'D "/d" 1000 1001 0700', 'F "/d/f" 1 2 0644 "hello"', 'F "/empty" 0 0 0000 ""',
          'L "/link" "d/f"', 'D "/open" 12345678 4294967294 01777', 'F "/set" 0 0 06755 "s"',
@@ -130,8 +130,7 @@ def unpacked(room):
 def with_long_names(steps, room):
     """Long names beside the system's `ls -ln`, of a folder that tar made of the same tree."""
     make(room)
-    if os.geteuid() != 0:
-        steps.skip("long names beside ls -ln", "tar gives files to other users as root alone")
+    if steps.lacks_root("long names beside ls -ln", "tar gives files to other users as root alone"):
         return
     expected = unpacked(room)
     sftp = ["sftp", "-q", "-b", "-", "-D"]

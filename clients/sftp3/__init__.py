@@ -10,11 +10,12 @@ from sftp3.packets import (APPEND, ATTRS, BAD_MESSAGE, CLIENT, CODES, CREAT, DAT
                            VERSION, WRITE, Packet, Reply, Request, attributes_in, code_name, decode, encode, front,
                            id_of, init, length, names_in, packet, read, request, split, status, string_in, version,
                            version_of)
-from sftp3.transcripts import OPENING, each_record, put_records, records, until_fault
+from sftp3.transcripts import BEGUN, OPENING, each_record, put_records, records, until_fault
 
 __all__ = [
-    "APPEND", "ATTRS", "BAD_MESSAGE", "CLIENT", "CODES", "CREAT", "DATA", "EOF", "EXCL", "EXTENDED", "EXTENDED_REPLY",
-    "EXTENSIONS", "FAILURE", "Fields", "HANDLE", "INIT", "LAYOUTS", "LONGEST", "LOOKERS", "Malformed", "NAME", "NAMES",
+    "APPEND", "ATTRS", "BAD_MESSAGE", "BEGUN", "CLIENT", "CODES", "CREAT", "DATA", "EOF", "EXCL", "EXTENDED",
+    "EXTENDED_REPLY", "EXTENSIONS", "FAILURE", "Fields", "HANDLE", "INIT", "LAYOUTS", "LONGEST", "LOOKERS", "Malformed",
+    "NAME", "NAMES",
     "NO_SUCH_FILE", "OK", "OPENING", "OP_UNSUPPORTED", "PERMISSION_DENIED", "Packet", "READ", "REPLIES", "REQUESTS",
     "Reply", "Request", "SERVER", "STATUS", "TRUNC", "VERSION", "WRITE", "attributes", "attributes_in", "code_name",
     "decode", "each_record", "encode", "front", "id_of", "init", "length", "names", "names_in", "packet", "pairs",

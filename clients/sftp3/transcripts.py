@@ -1,13 +1,17 @@
 """Transcript files, both ways (docs/FORMATS.md): records, which are pairs of a side, `C` or `S`, and a packet."""
 from __future__ import annotations
 
+from collections.abc import Iterable
+
 from sftp3.fields import Malformed
-from sftp3.packets import LONGEST, SIDES, Packet, front, length
+from sftp3.packets import CLIENT, LONGEST, SERVER, SIDES, Packet, front, init, length, version
 
 OPENING = b"SFTPTR01"
+# The records of a session in which nothing was asked yet, and whose server announces no extension.
+BEGUN = ((CLIENT, init()), (SERVER, version(3, [])))
 
 
-def put_records(given: list[tuple[bytes, bytes]]) -> bytes:
+def put_records(given: Iterable[tuple[bytes, bytes]]) -> bytes:
     """The transcript of these records."""
     return OPENING + b"".join(side + data for side, data in given)
 

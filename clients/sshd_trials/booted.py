@@ -7,7 +7,7 @@ import tempfile
 
 from record_trials.steps import TOP
 from recording import temporary
-from sshd_trials.ground import INSIDE, PROGRAM, NotMade, keep, run
+from sshd_trials.ground import INSIDE, PROGRAM, NotMade, keep, lay_over, run
 
 SYSTEMD = "/lib/systemd/systemd"
 SPACES = ["unshare", "--mount", "--pid", "--fork", "--kill-child", "--net", "--uts", "--ipc", "--cgroup",
@@ -79,24 +79,16 @@ def make_groups(root):
 
 
 def make_system(room):
-    """The files of the system below the room, with all that is written above them in memory."""
-    root = f"{room}/root"
-    run("mount", "-t", "tmpfs", "-o", "mode=755", "none", root)
-    for name in ("above", "work", "whole"):
-        os.mkdir(f"{root}/{name}")
-    whole = f"{root}/whole"
-    run("mount", "-t", "overlay", "none", "-o", f"lowerdir=/,upperdir={root}/above,workdir={root}/work", whole)
-    run("mount", "-t", "proc", "none", f"{whole}/proc")
-    make_devices(whole)
-    make_groups(whole)
-    run("mount", "-t", "tmpfs", "-o", "mode=755", "none", f"{whole}/run")
-    run("ip", "link", "set", "lo", "up")
-    open(whole + SAID, "w", encoding="utf-8").close()
-    run("mount", "--bind", f"{room}/said", whole + SAID)
-    os.makedirs(whole + SOURCES)
-    run("mount", "--bind", TOP, whole + SOURCES)
-    run("mount", "-o", "remount,bind,ro", whole + SOURCES)
-    return whole
+    """The copy below the room, with the repository, and the file in which the trial says what it found."""
+    root = lay_over(f"{room}/root")
+    make_devices(root)
+    make_groups(root)
+    open(root + SAID, "w", encoding="utf-8").close()
+    run("mount", "--bind", f"{room}/said", root + SAID)
+    os.makedirs(root + SOURCES)
+    run("mount", "--bind", TOP, root + SOURCES)
+    run("mount", "-o", "remount,bind,ro", root + SOURCES)
+    return root
 
 
 def enter(script):

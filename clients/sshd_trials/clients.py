@@ -3,19 +3,14 @@ printed. Editors save below a mount of sshfs: each replaces the first line of a 
 import os
 import pty
 import select
-import subprocess
 import time
 from pathlib import Path
 
 from trials import sshd
+from trials.processes import run
 
 LARGE = bytes(range(256)) * 4000
 OPTIONS = sshd.options("/root/key")
-
-
-def run(words, **options):
-    return subprocess.run(list(map(str, words)), stdout=subprocess.PIPE, stderr=subprocess.STDOUT, text=True,
-                          timeout=100, check=False, **options)
 
 
 class Where:

@@ -8,6 +8,7 @@ import sys
 import tempfile
 
 from recording import temporary
+from trials import processes
 
 INSIDE = "SFTPV3_GROUND"
 SPACES = ["unshare", "--mount", "--net", "--pid", "--fork", "--kill-child", "--propagation", "private"]
@@ -22,7 +23,7 @@ class NotMade(Exception):
 
 
 def run(*words):
-    done = subprocess.run(words, stdout=subprocess.PIPE, stderr=subprocess.STDOUT, text=True, check=False)
+    done = processes.run(words, timeout=None)
     if done.returncode:
         raise NotMade(f"{words[0]} {words[1]}: {done.stdout.strip()}")
 
@@ -45,18 +46,24 @@ def again(words):
                 raise
 
 
-def enter():
-    """Makes the copy below the room, and goes into it."""
-    room = os.environ[INSIDE]
-    run("mount", "-t", "tmpfs", "-o", "mode=755", "none", room)
+def lay_over(folder):
+    """Makes a copy of the system below a folder, with all that is written above its files in memory, with processes and
+    a loopback of its own. Returns its root."""
+    run("mount", "-t", "tmpfs", "-o", "mode=755", "none", folder)
     for name in ("above", "work", "root"):
-        os.mkdir(f"{room}/{name}")
-    root = f"{room}/root"
-    run("mount", "-t", "overlay", "overlay", "-o", f"lowerdir=/,upperdir={room}/above,workdir={room}/work", root)
-    run("mount", "-t", "proc", "proc", f"{root}/proc")
-    run("mount", "--rbind", "/dev", f"{root}/dev")
+        os.mkdir(f"{folder}/{name}")
+    root = f"{folder}/root"
+    run("mount", "-t", "overlay", "none", "-o", f"lowerdir=/,upperdir={folder}/above,workdir={folder}/work", root)
+    run("mount", "-t", "proc", "none", f"{root}/proc")
     run("mount", "-t", "tmpfs", "-o", "mode=755", "none", f"{root}/run")
     run("ip", "link", "set", "lo", "up")
+    return root
+
+
+def enter():
+    """Makes the copy below the room, and goes into it."""
+    root = lay_over(os.environ[INSIDE])
+    run("mount", "--rbind", "/dev", f"{root}/dev")
     keep(os.environ["SFTPV3"], root + PROGRAM)
     os.chroot(root)
     os.chdir("/")

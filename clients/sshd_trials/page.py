@@ -1,11 +1,13 @@
 """The lines of docs/OPERATORS.md, and of docs/SECURITY.md, that an operator types, as they are there."""
 import re
-import subprocess
 
 from record_trials.steps import TOP
+from trials import processes
 
 PAGE = TOP / "docs/OPERATORS.md"
 SECURITY = TOP / "docs/SECURITY.md"
+# Seconds after which the lines of a page hang.
+LONG = 120
 
 
 def lines_of(name, page=PAGE):
@@ -23,8 +25,7 @@ def for_user(text, user, folder):
 
 def run(text, **options):
     """Runs the lines in a shell, up to the first that fails. Returns the status and what is printed."""
-    done = subprocess.run(["sh", "-e", "-c", text], stdout=subprocess.PIPE, stderr=subprocess.STDOUT, text=True,
-                          timeout=120, check=False, **options)
+    done = processes.run(["sh", "-e", "-c", text], timeout=LONG, **options)
     return done.returncode, done.stdout
 
 
@@ -32,9 +33,8 @@ def run_cron(path):
     """Does what cron does with the one line of a file in /etc/cron.d."""
     with open(path, encoding="utf-8") as file:
         words = [it for it in file.read().splitlines() if it and not it.startswith("#")][-1].split(None, 6)
-    done = subprocess.run(["/bin/sh", "-c", words[6]], stdout=subprocess.PIPE, stderr=subprocess.STDOUT, text=True,
-                          timeout=120, check=False, cwd="/root",
-                          env={"HOME": "/root", "LOGNAME": words[5], "SHELL": "/bin/sh", "PATH": "/usr/bin:/bin"})
+    done = processes.run(["/bin/sh", "-c", words[6]], timeout=LONG, cwd="/root", env={
+        "HOME": "/root", "LOGNAME": words[5], "SHELL": "/bin/sh", "PATH": "/usr/bin:/bin"})
     return done.returncode, done.stdout
 
 

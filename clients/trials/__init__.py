@@ -2,6 +2,7 @@
 
 steps          the steps that are counted, and trials in parts
 processes      programs that are started, waited for, found and ended; users of a trial
+disks          small file systems, and how they are filled
 sessions       the client's end of a session
 clients        the real clients that are installed, and how each gets a server
 ssh            those that speak SSH themselves

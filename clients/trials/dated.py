@@ -8,10 +8,6 @@ FILE, LINK, FOLDER = 0o100644, 0o120777, 0o040755
 ACCESS, MODIFICATION, SWAPPED = set_times.ACCESS, set_times.MODIFICATION, set_times.SWAPPED
 
 
-def begun():
-    return [(sftp3.CLIENT, sftp3.init()), (sftp3.SERVER, sftp3.version(3, []))]
-
-
 def ask(number, name, *fields):
     return sftp3.CLIENT, sftp3.request(number, name, *fields)
 
@@ -97,5 +93,5 @@ SESSIONS = [
 
 def try_sessions(steps):
     for name, records, wanted in SESSIONS:
-        found = [one.found for one in set_times.findings(begun() + records)]
+        found = [one.found for one in set_times.findings([*sftp3.BEGUN, *records])]
         steps.check(f"times: {name}", found == ([] if wanted is None else [wanted]), found)

@@ -2,10 +2,12 @@
 own."""
 import json
 import os
+import subprocess
 import sys
 
 from probing.plans import Step
 from probing.program import TOP, program
+from trials.processes import run
 
 
 def serve(*options):
@@ -32,6 +34,11 @@ def planted(name):
 def faulty(name, *options):
     """The same, with the options that the server behind it needs."""
     return stand_in("faults", name, serve(*options))
+
+
+def run_probe(*words):
+    """Runs the probe to its end. What it prints, on either stream, is text of its `stdout`."""
+    return run([os.path.join(TOP, "clients", "probe"), *words], timeout=None, stdin=subprocess.DEVNULL)
 
 
 def groups_of(report):

@@ -1,7 +1,10 @@
-"""What trials start: programs of a few lines, processes that are waited for, found and ended, users of their own."""
+"""What trials start: programs of a few lines, what they print and use, processes that are waited for, found and ended,
+users of their own."""
 import os
+import resource
 import signal
 import subprocess
+import sys
 import time
 from contextlib import suppress
 from pathlib import Path
@@ -27,6 +30,49 @@ def ended(process, seconds=SOON):
         return process.wait(seconds)
     except subprocess.TimeoutExpired:
         return None
+
+
+def run(words, timeout=SOON, **options):
+    """Runs a command to its end. What it prints, on either stream, is text of its `stdout`."""
+    return subprocess.run(list(map(str, words)), stdout=subprocess.PIPE, stderr=subprocess.STDOUT, text=True,
+                          timeout=timeout, check=False, **options)
+
+
+def limited(kind, soft, hard=None):
+    """What gives a child a limit of the system, as its `preexec_fn`. The hard one is the same, unless it is named."""
+    return lambda: resource.setrlimit(kind, (soft, soft if hard is None else hard))
+
+
+def worked():
+    """How many seconds processors worked for all that was run, and has ended."""
+    used = resource.getrusage(resource.RUSAGE_CHILDREN)
+    return used.ru_utime + used.ru_stime
+
+
+# A process begins with the memory of the one that started it, as Linux counts the most. So a small process starts the
+# command, and writes what it used to a pipe.
+MEASURE = """
+import os, subprocess, sys
+child = subprocess.Popen(sys.argv[2:])
+_, ended, used = os.wait4(child.pid, 0)
+child.returncode = os.waitstatus_to_exitcode(ended)
+told = child.returncode, used.ru_utime + used.ru_stime, used.ru_maxrss * 1024
+os.write(int(sys.argv[1]), b"%d %f %d" % told)
+"""
+
+
+def used_by(words, **options):
+    """Runs a command. Returns its end, how many seconds processors worked for it, and its most memory in bytes."""
+    source, target = os.pipe()
+    with open(source, "rb") as told:
+        try:
+            done = subprocess.run([sys.executable, "-I", "-S", "-c", MEASURE, str(target), *map(str, words)],
+                                  pass_fds=[target], check=False, **options)
+        finally:
+            os.close(target)
+        status, seconds, memory = told.read().split()
+    done.returncode = int(status)
+    return done, float(seconds), int(memory)
 
 
 def children_of(number):

@@ -2,13 +2,7 @@
 import os
 
 import sftp3
-
-
-def send(target, data):
-    """Writes all of it."""
-    view = memoryview(data)
-    while view:
-        view = view[os.write(target, view):]
+from probing.planted import write
 
 
 def receive(source, count):
@@ -32,7 +26,7 @@ class Client:
         self.input, self.output, self.number = input, output, 0
 
     def send(self, data):
-        send(self.input, data)
+        write(self.input, data)
 
     def receive(self, count):
         return receive(self.output, count)

@@ -45,6 +45,13 @@ class Steps:
             self.skipped += 1
             print(f"skipped: {name}: {why}", flush=True)
 
+    def lacks_root(self, name: str, why: object = "it needs root") -> bool:
+        """Whether this is not root. Then the step cannot be tried."""
+        if os.geteuid() == 0:
+            return False
+        self.skip(name, why)
+        return True
+
     def end(self) -> int:
         """Prints the line that counts the steps. Returns the exit status."""
         print(f"{self.passed} passed, {self.failed} failed, {self.skipped} skipped", flush=True)
@@ -82,13 +89,23 @@ def takes_no_words():
         sys.exit(2)
 
 
-def run_parts(package, parts, room, usage):
-    """Tries the parts that the command line names, or else all. Returns the exit status."""
+def missing(*programs):
+    """Which of these programs is not there, or `root` if that is what is missing; nothing if all is there."""
+    absent = [it for it in programs if not os.access(it, os.X_OK)]
+    return absent[0] if absent else "root" if os.geteuid() != 0 else ""
+
+
+def run_parts(package, parts, room, usage, needed=""):
+    """Tries the parts that the command line names, or else all; or says what is needed and missing. Returns the exit
+    status."""
     answer_help()
     words = sys.argv[1:]
     if set(words) - set(parts):
         print(usage, file=sys.stderr)
         return 2
+    if needed:
+        print(f"skipped: it needs {needed}")
+        return 0
     steps = Steps()
     for part in words or parts:
         for trial in importlib.import_module(f"{package}.{part}").TRIALS:

@@ -14,7 +14,8 @@ from sftp3 import trees
 from trials.other_servers import SFTP_SERVER, has_openssh
 from trials.probes import SERVE, misbehaving
 from trials.processes import wait_until
-from walk_trials.walks import HOSTILE, POSIX, PROMPT, run, signalled
+from walk_trials.ends import PROMPT, signalled
+from walk_trials.runs import HOSTILE, POSIX, needs_infer, run
 
 PROBE = os.path.join(TOP, "clients", "probe")
 OWN, BASE = b"/live/base", b"/live/base/plan"
@@ -46,7 +47,7 @@ def is_below(path):
                for it in (path, path.partition(b"\0")[0]))
 
 
-def try_paths(steps):
+def try_paths(steps, _):
     """No request of a plan names a place that is not below the directory, whatever its paths are."""
     draw, base, wrong = random.Random(1), below.Below(OWN, starting.few()), []
     for _ in range(20000):
@@ -81,7 +82,7 @@ class Asked(below.Clearing):
             replies = yield wanted
 
 
-def try_clearing(steps):
+def try_clearing(steps, _):
     """What a session made is removed, or said to be left, whatever the server lists."""
     for kind, wanted in ENDLESS:
         work = Asked(b"/live")
@@ -145,9 +146,15 @@ def try_openssh(steps, folder):
         for line in said.splitlines() if line.startswith("seed ")), said[-2000:])
 
 
+def blank(folder):
+    """Makes a tree of a directory `place` alone. Returns the name of its file."""
+    name = os.path.join(folder, "blank.tree")
+    trees.write(trees.Tree([trees.Entry(b"/place", trees.DIRECTORY)], limits=starting.ROOMY), name)
+    return name
+
+
 def try_serve(steps, folder):
-    start = os.path.join(folder, "blank.tree")
-    trees.write(trees.Tree([trees.Entry(b"/place", trees.DIRECTORY)], limits=starting.ROOMY), start)
+    start = blank(folder)
     forgetful = [program(), "serve", "--tree", start]
     status, said = probe(folder, ["--look-first", "/place"], forgetful)
     steps.check("a server that forgets all between two sessions is not accepted, and a line says what to do",
@@ -213,7 +220,7 @@ def try_locked(steps, folder):
 
 
 def try_usage(steps, folder):
-    start = os.path.join(folder, "blank.tree")
+    start = blank(folder)
     for options, command, wanted, word in (
             (["--look-first", "/"], SERVE, 2, "excludes"),
             (["--look-first", "/", "--reset", "true"], ["true"], 2, "excludes"),
@@ -222,3 +229,7 @@ def try_usage(steps, folder):
         status, said = probe(folder, options, command)
         steps.check(f"{' '.join(options)}: status {wanted}, {word}", status == wanted and word in said
                     and "Traceback" not in said, f"{status}: {said}")
+
+
+TRIALS = (try_paths, try_clearing, try_signals,
+          *needs_infer(try_serve, try_openssh, try_umask, try_slow, try_locked, try_usage))

@@ -15,7 +15,8 @@ sys.path.insert(0, os.path.dirname(os.path.dirname(os.path.realpath(__file__))))
 import sftp3  # noqa: E402 (the folder above is not searched before)
 from probing import misbehaving, planted  # noqa: E402
 from probing.faulty import data_of, with_data, with_names  # noqa: E402
-from probing.misbehaving import Healthy, status, write  # noqa: E402
+from probing.misbehaving import Healthy, status  # noqa: E402
+from probing.planted import write  # noqa: E402
 
 TYPES, DIRECTORY, FILE, LINK, FIFO = 0o170000, 0o040755, 0o100644, 0o120777, 0o010644
 

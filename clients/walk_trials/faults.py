@@ -3,15 +3,11 @@ import os
 import shutil
 import signal
 import subprocess
-import sys
 import tempfile
 
-from probing.program import TOP
 from trials.other_servers import SFTP_SERVER, has_openssh
-from trials.processes import executable
-from walk_trials.walks import HOSTILE, WALK, is_clean, run, signalled, walk
-
-BETWEEN = [sys.executable, os.path.join(TOP, "clients", "walk_trials", "between.py")]
+from walk_trials.ends import signalled, with_program
+from walk_trials.runs import BETWEEN, HOSTILE, WALK, is_clean, make_live, needs_infer, run, walk
 
 # Faults of between.py, the status of a walk through a server with it, and what is said. What the walk is told but once,
 # such as a byte of a file, it has to believe, and so it finds a tree.
@@ -81,15 +77,6 @@ exit 3
 """
 
 
-def make_live(folder):
-    """A folder with two levels, a link to a file, and a file of several READs."""
-    os.makedirs(os.path.join(folder, "d", "e"))
-    for name, content in (("f", b"abc"), ("d/large", bytes(range(256)) * 400), ("d/e/empty", b"")):
-        with open(os.path.join(folder, name), "wb") as file:
-            file.write(content)
-    os.symlink("../f", os.path.join(folder, "d", "up"))
-
-
 def try_faults(steps, folder):
     if not has_openssh(steps, "servers with one fault each"):
         return
@@ -136,9 +123,8 @@ def try_full_outputs(steps, folder):
 
 def try_no_room(steps, folder):
     """Why the tree is not written is told in words, in one line."""
-    program = executable(os.path.join(folder, "no-room"), NO_ROOM)
     status, said = run([WALK, "--to", "seen.tree", "--", *HOSTILE, "Right"], folder,
-                       env={**os.environ, "SFTPV3": program})
+                       env={**os.environ, **with_program(folder, "no-room", NO_ROOM)})
     steps.check("no room for the tree: status 3, and why", status == 3 and said == "walk: `sftpv3 infer` ended with "
                 "status 3: cannot write seen.tree; reason: No space left on device (os error 28); the file is "
                 "unchanged\n", f"{status}: {said}")
@@ -155,7 +141,7 @@ def try_beside(steps, folder):
     """What another process writes at the same time beside the same tree is not removed; what nobody writes is."""
     room = os.path.join(folder, "beside")
     os.mkdir(room)
-    program = {"SFTPV3": executable(os.path.join(folder, "writing-beside"), BESIDE)}
+    program = with_program(folder, "writing-beside", BESIDE)
     words = [WALK, "--to", os.path.join(room, "seen.tree"), "--", *HOSTILE, "Right"]
     status, said, *_ = signalled(folder, words, signal.SIGTERM, program)
     steps.check("an unfinished file of another walk stays, those that nobody writes go", status == 143 and
@@ -170,7 +156,7 @@ def try_unfinished(steps, folder):
     others = os.path.join(room, "seen.tree.new-fedcba9876543210")
     with open(others, "wb"):
         pass
-    program = {"SFTPV3": executable(os.path.join(folder, "writing"), WRITING)}
+    program = with_program(folder, "writing", WRITING)
     for number in (signal.SIGTERM, signal.SIGHUP, signal.SIGINT):
         words = [WALK, "--to", os.path.join(room, "seen.tree"), "--", *HOSTILE, "Right"]
         status, said, left, running = signalled(folder, words, number, program)
@@ -178,3 +164,6 @@ def try_unfinished(steps, folder):
                     not left and not running and os.listdir(room) == [os.path.basename(others)],
                     f"{status}: {said} {os.listdir(room)}")
     shutil.rmtree(room)
+
+
+TRIALS = needs_infer(try_faults, try_full_outputs, try_no_room, try_unfinished, try_beside)

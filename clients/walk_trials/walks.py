@@ -1,61 +1,18 @@
 """Walks through servers that mean harm, and through right ones."""
 import os
 import resource
-import shlex
-import shutil
-import signal
 import subprocess
-import sys
 import tempfile
-import time
-from contextlib import suppress
 
 from probing import starting
 from probing.program import TOP, program
 from sftp3 import trees
 from trials.other_servers import SFTP_SERVER, has_openssh
-from trials.probes import SERVE, misbehaving
-from trials.processes import executable, kill, processes_of, wait_until
-
-WALK = os.path.join(TOP, "clients", "walk")
-HOSTILE = [sys.executable, os.path.join(TOP, "clients", "walk_trials", "hostile.py")]
-POSIX = ["--profile", "posix"]
-
-# Seconds of a processor after which a walk is said not to end, seconds after which it is said to hang, however busy the
-# machine is, and the most bytes of memory that one may take.
-ENDLESS, HUNG, MEMORY = 300, 1800, 1 << 30
+from trials.processes import executable, limited
+from walk_trials.runs import HOSTILE, POSIX, WALK, is_clean, make_live, needs_infer, run, walk
 
 # The server that does not reply, and for how many seconds a walk waits for it, and for replies of others.
 SILENT, SHORT, LONG = "hang", "1", "100"
-
-# Seconds after which a signal is said not to end a script.
-PROMPT = 60
-
-# A program `sftpv3` whose `infer` hangs, in which another process is started first, or needs more memory than it gets,
-# or says of which files that is so.
-HANGING = """#!/bin/sh
-case "$*" in "help infer" | *begun.tree) exit;; esac
-echo $$ >"$MARK"
-sleep 600
-"""
-GREEDY = """#!/bin/sh
-[ "$*" = "help infer" ] && exit
-sleep 1
-dd if=/dev/zero of=/dev/null bs=400000000 count=1 2>/dev/null || { echo "sftpv3: out of memory" >&2; exit 3; }
-"""
-LARGE = """#!/bin/sh
-[ "$*" = "help infer" ] && exit
-echo "no tree: the files of the session have 5 bytes in all" >&2
-echo "sftpv3: out of memory: x needs more than '--memory' allows" >&2
-exit 3
-"""
-
-PATHS = """#!/bin/sh
-[ "$*" = "help infer" ] && exit
-echo "no tree: the paths that replies tell of have 9 bytes in all" >&2
-echo "sftpv3: out of memory" >&2
-exit 3
-"""
 
 # A session of a user, 7 and of the group 8, who makes a directory.
 MAKES = b"""C INIT 3
@@ -110,32 +67,8 @@ TOLD = [
 OTHER, NO_TEXT = os.fsdecode(b"x\xff"), "sftpv3 takes no name that is not UTF-8"
 
 
-def limit():
-    resource.setrlimit(resource.RLIMIT_AS, (MEMORY, MEMORY))
-    resource.setrlimit(resource.RLIMIT_CPU, (ENDLESS, ENDLESS))
-
-
-def run(words, cwd, **options):
-    """The status of a command of the repository, and what it printed on both streams; no status if it hangs."""
-    try:
-        done = subprocess.run(words, cwd=cwd, stdin=subprocess.DEVNULL, stdout=subprocess.PIPE,
-                              stderr=subprocess.STDOUT, timeout=HUNG, check=False, **options)
-    except subprocess.TimeoutExpired:
-        return None, f"it did not end within {HUNG} seconds"
-    return done.returncode, done.stdout.decode(errors="replace")
-
-
-def walk(folder, options, command):
-    return run([WALK, *options, "--", *command], folder, preexec_fn=limit)
-
-
 def walk_hostile(folder, options, kind):
     return walk(folder, ["--timeout", SHORT if kind == SILENT else LONG, *options], [*HOSTILE, kind])
-
-
-def is_clean(said):
-    """Whether a text has no traceback, and nothing that a terminal acts on."""
-    return "Traceback" not in said and "\x1b" not in said
 
 
 def try_hostile(steps, folder):
@@ -208,7 +141,7 @@ def try_limited(steps, folder):
     start, to = (os.path.join(folder, name) for name in ("long.tree", "limited.tree"))
     trees.write(trees.Tree([trees.Entry(b"/f", trees.FILE, bytes(3000))]), start)
     status, said = run([WALK, "--no-contents", "--to", to, "--", program(), "serve", "--tree", start], folder,
-                       preexec_fn=lambda: resource.setrlimit(resource.RLIMIT_FSIZE, (2048, 2048)))
+                       preexec_fn=limited(resource.RLIMIT_FSIZE, 2048))
     steps.check("a tree longer than a file may be: status 3, and why", status == 3 and "File too large" in said and
                 to in said and not os.path.exists(to), f"{status}: {said}")
 
@@ -218,11 +151,7 @@ def try_posix(steps, folder):
     if not has_openssh(steps):
         return
     live, seen, other = (os.path.join(folder, name) for name in ("live", "live.tree", "other.tree"))
-    os.makedirs(os.path.join(live, "d", "e"))
-    for name, content in (("f", b"abc"), ("d/large", bytes(range(256)) * 4000), ("d/e/empty", b"")):
-        with open(os.path.join(live, name), "wb") as file:
-            file.write(content)
-    os.symlink("../f", os.path.join(live, "d", "up"))
+    make_live(live, 4000)
     os.symlink("nowhere", os.path.join(live, "dangling"))
     status, said = walk(folder, ["--below", live, "--to", seen], [SFTP_SERVER])
     run([os.path.join(TOP, "clients", "tree"), "--out", other, live], folder)
@@ -241,137 +170,9 @@ def entries_below(name, place):
     return [line for line in show(name).splitlines() if f'"{place}'.encode() in line.split(b" ", 2)[1]]
 
 
-def signalled(folder, words, number, environment, ignored=()):
-    """Starts a command, and sends it a signal once the file `mark` is there. Gives its status, or None if it did not
-    end in time, what it printed, what it left in its temporary folder, and its processes that are left."""
-    room = tempfile.mkdtemp(dir=folder)
-    mark, temporary = os.path.join(room, "mark"), os.path.join(room, "tmp")
-    os.mkdir(temporary)
-    environment = {**os.environ, "TMPDIR": temporary, "MARK": mark, **environment}
-
-    def ignore():
-        for it in (signal.SIGHUP, signal.SIGINT, signal.SIGTERM):
-            signal.signal(it, signal.SIG_IGN if it in ignored else signal.SIG_DFL)
-    with subprocess.Popen(words, cwd=room, env=environment, stdin=subprocess.DEVNULL, stdout=subprocess.PIPE,
-                          stderr=subprocess.STDOUT, preexec_fn=ignore, start_new_session=True) as running:
-        wait_until(lambda: os.path.exists(mark) or running.poll() is not None)
-        for it in (*ignored, number):
-            running.send_signal(it)
-            time.sleep(0.2)
-        try:
-            said = running.communicate(timeout=PROMPT)[0].decode(errors="replace")
-            status = running.returncode
-        except subprocess.TimeoutExpired:
-            status, said = None, ""
-        left = os.listdir(temporary), processes_of(mark)
-        for it in {running.pid, *left[1]} if running.poll() is None or left[1] else ():
-            kill(it)
-    shutil.rmtree(room)
-    return status, said, *left
-
-
-def try_signals(steps, folder):
-    """A signal ends a walk in order, be it in the session, or while the tree is made."""
-    hanging = {"SFTPV3": executable(os.path.join(folder, "hanging"), HANGING)}
-    for what, server, environment in (("in the session", "marks_and_hangs", {}), ("in infer", "Right", hanging)):
-        for number in (signal.SIGTERM, signal.SIGHUP, signal.SIGINT):
-            words = [WALK, "--timeout", "600", "--to", "seen.tree", "--", *HOSTILE, server]
-            status, said, left, running = signalled(folder, words, number, environment)
-            steps.check(f"{what}, {number.name} ends a walk with status {128 + number}, and leaves nothing",
-                        status == 128 + number and said == f"walk: {number.name} came; no tree is written\n" and
-                        not left and not running, f"{status}: {said} {left} {running}")
-    words[-1] = "marks_and_hangs"
-    status, said, left, running = signalled(folder, words, signal.SIGTERM, {}, ignored=[signal.SIGHUP])
-    steps.check("a signal that was ignored at the start is ignored", status == 143 and "SIGTERM" in said,
-                f"{status}: {said}")
-
-
-def try_pause(steps, folder):
-    """Where all is stopped for longer than a reply may take, as in a container that is paused, no server is blamed."""
-    probe = [os.path.join(TOP, "clients", "probe"), "--seeds", "1", "--jobs", "1", "--timeout", "4", "--keep", "kept"]
-    for words in ([WALK, "--timeout", "4", "--to", "seen.tree", "--", *HOSTILE, "marks_and_waits"],
-                  [*probe, "--", *misbehaving("waits_once")]):
-        mark = os.path.join(tempfile.mkdtemp(dir=folder), "mark")
-        with subprocess.Popen(words, cwd=folder, env={**os.environ, "MARK": mark}, stdin=subprocess.DEVNULL,
-                              stdout=subprocess.PIPE, stderr=subprocess.STDOUT) as running:
-            wait_until(lambda: os.path.exists(mark) or running.poll() is not None)
-            others = [it for it in processes_of(mark) if it != running.pid]
-            for it in (running.pid, *others):
-                os.kill(it, signal.SIGSTOP)
-            time.sleep(6)
-            os.kill(running.pid, signal.SIGCONT)
-            time.sleep(0.5)
-            for it in others:
-                os.kill(it, signal.SIGCONT)
-            said = running.communicate(timeout=HUNG)[0].decode(errors="replace")
-        steps.check(f"{os.path.basename(words[0])}: all is stopped for 6 seconds, where replies have 4: none is late",
-                    running.returncode == 0 and others, f"{running.returncode}: {said}")
-
-
-# A walk that gets SIGTERM when `infer` has ended.
-LATE = """
-import os, runpy, signal, subprocess, sys
-sys.path.insert(0, {clients!r})
-class Done(subprocess.CompletedProcess):
-    def __init__(self, words, *others):
-        super().__init__(words, *others)
-        if words[-1] == sys.argv[2]:
-            os.kill(os.getpid(), signal.SIGTERM)
-            for _ in range(1000):
-                pass
-subprocess.CompletedProcess = Done
-sys.argv[0] = {walk!r}
-runpy.run_path({walk!r}, run_name="__main__")
-"""
-
-
-def try_late_signal(steps, folder):
-    """A signal that comes behind the end of `infer` ends the walk in order, and what is told of the tree is true."""
-    late = os.path.join(folder, "late.tree")
-    code = LATE.format(clients=os.path.join(TOP, "clients"), walk=WALK)
-    status, said = run([sys.executable, "-c", code, "--to", late, "--", *HOSTILE, "Right"], folder)
-    steps.check("SIGTERM behind the end of infer: status 143, and that the tree is written", status == 143 and
-                os.path.exists(late) and said == "walk: SIGTERM came; the tree is written\n", f"{status}: {said}")
-
-
-def try_left_processes(steps, folder):
-    """What a server started in its session ends with the walk, also where the server has ended before."""
-    mark = os.path.join(folder, "left-mark")
-    code = f"sleep 600 >/dev/null 2>&1 & exec {shlex.join([*HOSTILE, 'Right'])}"
-    status, said = run([WALK, "--to", "left.tree", "--", "sh", "-c", code], folder, env={**os.environ, "MARK": mark})
-    left = processes_of(mark)
-    for it in left:
-        os.kill(it, signal.SIGKILL)
-    steps.check("what a server leaves running ends with the walk", status == 0 and not left, f"{status} {left}: {said}")
-
-
-def try_memory(steps, folder):
-    """`infer` gets no more memory than --memory says."""
-    greedy = {"env": {**os.environ, "SFTPV3": executable(os.path.join(folder, "greedy"), GREEDY)}}
-    large = {"env": {**os.environ, "SFTPV3": executable(os.path.join(folder, "large"), LARGE)}}
-    status, said = run([WALK, "--memory", "4", "--to", "x", "--", *HOSTILE, "Right"], folder, **large)
-    steps.check("--memory 4: what is too large is said", status == 3 and is_clean(said) and
-                "needs more than 4 bytes of memory (--memory); no tree: the files of the session have 5 bytes in all"
-                in said, f"{status}: {said}")
-    paths = {"env": {**os.environ, "SFTPV3": executable(os.path.join(folder, "paths"), PATHS)}}
-    status, said = run([WALK, "--to", "x", "--", *HOSTILE, "Right"], folder, **paths)
-    steps.check("paths that are too long are not blamed on --memory", status == 3 and is_clean(said) and
-                "the paths that replies tell of have 9 bytes in all" in said and "--memory" not in said,
-                f"{status}: {said}")
-    for options, most in ((["--memory", "100000000"], 100_000_000), (["--memory", "1"], 1)):
-        status, said = run([WALK, *options, "--to", "x", "--", *HOSTILE, "Right"], folder, **greedy)
-        steps.check(f"{' '.join(options)}: more than that infer does not get", status == 3 and is_clean(said) and
-                    f"`sftpv3 infer` needs more than {most:,} bytes of memory (--memory)" in said, f"{status}: {said}")
-        status, said = walk(folder, [*options, "--to", "seen.tree"], [*HOSTILE, "Right"])
-        steps.check(f"{' '.join(options)}: that is enough, or is said to be too little",
-                    status == 0 if most > 1 else status == 3 and f"needs more than {most:,} bytes of memory" in said,
-                    f"{status}: {said}")
-
-
 def try_link(steps, folder):
     """A link of another user does not say where the tree goes."""
-    if os.geteuid() != 0:
-        steps.skip("a link of another user", "needs root")
+    if steps.lacks_root("a link of another user", "needs root"):
         return
     shared = os.path.join(folder, "shared")
     os.mkdir(shared)
@@ -383,31 +184,6 @@ def try_link(steps, folder):
     with open(target, encoding="ascii") as file:
         steps.check("--to: a link of another user is not followed", status == 3 and file.read() == "dear"
                     and "a symbolic link of another user" in said, f"{status}: {said}")
-
-
-def no_files():
-    resource.setrlimit(resource.RLIMIT_FSIZE, (0, 0))
-
-
-def try_soft_limit(steps, folder):
-    """A limit of the system that is lower than --memory is kept, also a soft one, and is what is named."""
-    greedy = {"env": {**os.environ, "SFTPV3": executable(os.path.join(folder, "greedy-too"), GREEDY)}}
-    for hard in (200 << 20, resource.RLIM_INFINITY):
-        status, said = run([WALK, "--to", "x", "--", *HOSTILE, "Right"], folder, **greedy,
-                           preexec_fn=lambda: resource.setrlimit(resource.RLIMIT_AS, (200 << 20, hard)))
-        steps.check(f"ulimit -v 200 MiB, {'soft' if hard < 0 else 'hard'}: infer gets no more, and that is said",
-                    status == 3 and is_clean(said) and "--memory" not in said and
-                    "`sftpv3 infer` needs more than the system's limit of 209,715,200 bytes (ulimit -v)" in said,
-                    f"{status}: {said}")
-
-
-def try_full_disk(steps, folder):
-    """Where no file can be written, a walk and a probe fail: they do not tell of a tree or of differences."""
-    probe = [os.path.join(TOP, "clients", "probe"), "--", *SERVE]
-    for name, words in (("walk", [WALK, "--to", "seen.tree", "--", *HOSTILE, "Right"]), ("probe", probe)):
-        status, said = run(words, folder, preexec_fn=no_files)
-        steps.check(f"{name}: without a place for temporary files: status 3", status == 3 and "temporary" in said
-                    and is_clean(said), f"{status}: {said[-600:]}")
 
 
 def try_mistakes(steps, folder):
@@ -453,9 +229,6 @@ def try_no_folder(steps, folder):
 
 def try_names(steps, folder):
     """A record that gets another name since the first is taken is not replaced by the tree."""
-    for name in ("taken", "taken.2"):
-        with suppress(FileNotFoundError):
-            os.remove(os.path.join(folder, name))
     with open(os.path.join(folder, "taken"), "wb") as file:
         file.write(b"dear")
     status, said = walk(folder, ["--session", "taken", "--to", "taken.2"], [*HOSTILE, "Right"])
@@ -505,3 +278,7 @@ def try_usage(steps, folder):
         status, said = walk(folder, options, command)
         steps.check(f"{' '.join(options)} -- {os.path.basename(command[-1])}: status {wanted}",
                     status == wanted and is_clean(said) and said, f"{status}: {said}")
+
+
+TRIALS = (try_records, *needs_infer(try_strict, try_absent, try_limited, try_posix, try_hostile, try_entries, try_owner,
+                                    try_usage, try_names, try_no_folder, try_mistakes, try_link))

@@ -256,7 +256,7 @@ def why_wrong(program, words, folder):
     """What the program says of options that it does not take, or None: it is asked of a session that has just begun."""
     begun = os.path.join(folder, "begun.transcript")
     with open(begun, "wb") as file:
-        file.write(sftp3.put_records([(b"C", sftp3.init()), (b"S", sftp3.version(3, []))]))
+        file.write(sftp3.put_records(sftp3.BEGUN))
     done = verdicts.run([program, "infer", *words, "--transcript", begun, os.path.join(folder, "begun.tree")], None)
     lines = done.stderr.decode(errors="replace").splitlines() or ["the program does not take its options"]
     return lines[0].removeprefix("error: ") if done.returncode == 2 else None

@@ -13,7 +13,7 @@ from attacking.memory import archive_of
 from attacking.recorders import VICTIM
 from attacking.saving import OPENED, TOP
 from probing.program import program
-from sftp3 import CLIENT, SERVER, init, put_records, request, version
+from sftp3 import BEGUN, CLIENT, SERVER, init, put_records, request
 from sftp3.trees import DIRECTORY, Entry, Tree, put
 
 HERE = os.path.dirname(os.path.realpath(__file__))
@@ -195,8 +195,7 @@ def a_name_runs_in_a_makefile(field):
             os.remove(field.path(f"records/{name}.transcript"))
 
 
-SESSION = [(CLIENT, init()), (SERVER, version(3, [])),
-           (CLIENT, request(1, "STAT", b"/\x01\xff\"\\\n")), (SERVER, sftp3.status(1, 0, b"\x1b[2J\xff"))]
+SESSION = [*BEGUN, (CLIENT, request(1, "STAT", b"/\x01\xff\"\\\n")), (SERVER, sftp3.status(1, 0, b"\x1b[2J\xff"))]
 NAMES = [b"\x01", b'"', b"\\", b"\n", b"\x7f", b"\xc3\xa9", b"\xed\xa0\x80", b"\xff", b"\xc0\xaf"]
 
 

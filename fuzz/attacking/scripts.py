@@ -11,7 +11,7 @@ import sys
 from attacking.ground import CLIENTS, SECONDS, attack
 from attacking.saving import HELLO, OPENED
 from probing.program import TOP, program
-from sftp3 import CLIENT, SERVER, init, put_records, request, status, version
+from sftp3 import BEGUN, CLIENT, SERVER, init, put_records, request, status
 
 COMMANDS = ("nightly", "page", "probe", "record", "recordd", "serve", "tree", "walk")
 SERVERS = ("servers/any", "servers/gesftpserver", "servers/openssh")
@@ -193,8 +193,7 @@ def a_closed_descriptor_of_the_checkout_s_program(field):
             yield f"without {files}: status {done.returncode}"
 
 
-REFUSED = put_records([(CLIENT, init()), (SERVER, version(3, [])), (CLIENT, request(1, "REMOVE", b"/absent")),
-                       (SERVER, status(1, 0))])
+REFUSED = put_records([*BEGUN, (CLIENT, request(1, "REMOVE", b"/absent")), (SERVER, status(1, 0))])
 # What has no verdict ends with this status.
 NONE = 3
 

@@ -1,13 +1,12 @@
 """Sessions and files that are short and make a program take much memory, and runs whose memory is measured;
 a few SFTP requests over `ssh -s`, for an SFTP-only user."""
-import os
 import subprocess
-import sys
 
 from probing.program import program
 from sftp3 import (CLIENT, CREAT, DATA, HANDLE, NAME, Packet, READ, Reply, Request, SERVER, WRITE, encode, init,
                    names_in, put_records, request, status, string_in, uint32, uint64, version)
 from sftp3.trees import Entry, FILE, Tree, USUAL, put
+from trials.processes import used_by
 from trials.sessions import Client
 
 READ_WRITE_CREATE = READ | WRITE | CREAT
@@ -95,33 +94,17 @@ def one_stat(path):
     return put_records([(CLIENT, HELLO), (SERVER, version(3, [])), (CLIENT, asked), (SERVER, status(1, 2))])
 
 
-# A process begins with the memory of the one that started it, as Linux counts the greatest. So a small process starts
-# the program, and writes its status and its greatest memory to a pipe.
-MEASURE = """
-import os, sys
-told = int(sys.argv[1])
-os.set_inheritable(told, False)
-_, status, used = os.wait4(os.spawnv(os.P_NOWAIT, sys.argv[2], sys.argv[2:]), 0)
-os.write(told, b"%d %d" % (os.waitstatus_to_exitcode(status), used.ru_maxrss * 1024))
-"""
-
-
 def run(field, words, asked=b"", zeros=0):
     """Runs the program on this input, and zeros behind it. Returns its status, standard error, and greatest memory."""
     given, said = field.path("given"), field.path("said")
     with open(given, "wb") as it:
         it.write(asked)
         it.truncate(len(asked) + zeros)
-    tells, told = os.pipe()
-    measured = [sys.executable, "-I", "-S", "-c", MEASURE, str(told), program(), *words]
     with open(given, "rb") as given, open(said, "wb+") as said:
-        subprocess.run(measured, stdin=given, stdout=subprocess.DEVNULL, stderr=said, cwd=field.folder,
-                       pass_fds=[told], check=True)
-        os.close(told)
+        done, _, most = used_by([program(), *words], stdin=given, stdout=subprocess.DEVNULL, stderr=said,
+                                cwd=field.folder)
         said.seek(0)
-        with open(tells, "rb") as counts:
-            status, most = map(int, counts.read().split())
-        return status, said.read().decode(), most
+        return done.returncode, said.read().decode(), most
 
 
 class Session(Client):

@@ -1,0 +1,45 @@
+"""Words that a night does not take, folders that are not there, and an output that is full."""
+import fcntl
+import os
+import subprocess
+
+from night_trials.place import ENDS_WELL, USER, environment
+
+
+def usage(steps, place):
+    place.check(steps, "a user that is not there: status 2", 2, "there is no user", user="nobody-at-all")
+    place.check(steps, "a folder that is not there: status 3", 3, "No such file", folders=[place.room / "absent"])
+    for words in (["--memory", "0"], ["--audit-seconds", "x"], ["--longest", "-1"], ["--longest", "nan"],
+                  ["--audit-seconds", "9999999999"], ["--look-seconds", "9999999999"], ["--memory", str(1 << 61)]):
+        place.check(steps, f"{' '.join(words)}: status 2", 2, "invalid", words=words)
+    (place.live / "large").write_bytes(bytes(1000))
+    place.check(steps, "files of more than a third of --memory: status 3", 3, "a third of --memory", words=["--memory",
+                                                                                                     "2000"])
+    for words in (["--wrong"], ["--umask", "999"], ["--explain"], ["--profile", "posix", "--tree", "x"]):
+        place.check(steps, f"{' '.join(words)}, which the audit does not take: status 2 before anything is made", 2,
+                    "nightly: behind --: ", words[-2] if words[-1] == "x" else words[0], words=["--", *words])
+    steps.check("and nothing is made", not (place.state / USER / "tree").exists())
+    place.begin("mkdir d")
+    place.check(steps, "later, too", 2, "--wrong", words=["--", "--wrong"])
+    steps.check("and the records stay", len(list(place.records.iterdir())) == 1)
+    held = os.open(place.state / USER, os.O_RDONLY)
+    fcntl.flock(held, fcntl.LOCK_EX)
+    place.check(steps, "two runs at once: status 3", 3, "another run")
+    os.close(held)
+    place.records.rename(place.room / "away")
+    place.check(steps, "a spool that is not there: status 3", 3, "No such file")
+
+
+def nobody_reads(steps, place):
+    """What cannot be printed is not done either: so no verdict is lost."""
+    place.begin("mkdir d")
+    with open("/dev/full", "wb") as full:
+        done = subprocess.run(place.night_words(), stdout=full, stderr=subprocess.PIPE, text=True, check=False,
+                              env=environment())
+    steps.check("standard output is full: status 3, and the record stays", done.returncode == 3 and
+                done.stderr == "nightly: standard output: No space left on device\n" and
+                len(list(place.records.iterdir())) == 1, f"{done.returncode}: {done.stderr}")
+    place.check(steps, "the next run says it", 0, ": accepted ", "1 session accepted; " + ENDS_WELL)
+
+
+TRIALS = (usage, nobody_reads)
