@@ -4,6 +4,7 @@ import gzip
 import io
 import lzma
 import os
+import pty
 import resource
 import subprocess
 import tarfile
@@ -13,7 +14,7 @@ from pathlib import Path
 
 from archive_trials.members import END, FILE, entry, run, sftpv3
 from probing.program import TOP, program
-from trials.processes import limited
+from trials.processes import ended, limited
 
 EXAMPLES = Path(TOP) / "examples"
 
@@ -136,6 +137,26 @@ def try_input_kept(steps, folder):
         further.unlink()
 
 
+def try_unread(steps, folder):
+    """Nothing is read where no archive can come, or where its tree cannot be written: the run ends at once."""
+    _, terminal = pty.openpty()
+    source, _ = os.pipe()
+    place = folder / "unread"
+    place.mkdir()
+    for name, given, file, status, said in [
+        ("a terminal", terminal, place / "tree", 2, "error: standard input is a terminal; give it an archive: "),
+        ("a folder in the place of the file", source, place, 3,
+         f"sftpv3: cannot write {place}: neither a regular file nor standard output\n"),
+        ("a file in no folder", source, place / "none" / "tree", 3, f"sftpv3: cannot write {place}/none/tree\n"),
+    ]:
+        with subprocess.Popen([program(), "import", file], stdin=given, stderr=subprocess.PIPE, text=True) as process:
+            found = ended(process)
+            process.kill()
+            line = process.stderr.read()
+        steps.check(f"{name} is refused before anything is read", found == status and line.startswith(said) and
+                    not list(place.iterdir()), f"{found}: {line[:200]}")
+
+
 def try_limited(steps, folder):
     """Where SIGXFSZ is ignored, a limit on the length of files has a message, and nothing is left."""
     place = folder / "limited"
@@ -148,4 +169,4 @@ def try_limited(steps, folder):
                 b"File too large" in done.stderr and not list(place.iterdir()), done.stderr.decode())
 
 
-TRIALS = (try_refused, try_compressed, try_no_archive, try_input_kept, try_limited)
+TRIALS = (try_refused, try_compressed, try_no_archive, try_input_kept, try_unread, try_limited)
