@@ -37,10 +37,7 @@ const NO_ARCHIVE: &str =
 /// # Errors
 ///
 /// `Usage` if it is one.
-fn require_archive<'a, R: AllocGlobal, I: IsTerminal>(
-    rt: &R,
-    input: &I,
-) -> Result<(), Failure<'a>>
+fn require_archive<'a, R: AllocGlobal, I: IsTerminal>(rt: &R, input: &I) -> Result<(), Failure<'a>>
     ensures { IfErr result IsUsage }
 {
     if input.is_terminal() {
