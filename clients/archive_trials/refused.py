@@ -157,6 +157,22 @@ def try_unread(steps, folder):
                     not list(place.iterdir()), f"{found}: {line[:200]}")
 
 
+def try_unseen(steps, folder):
+    """An archive is not written to a terminal."""
+    ours, terminal = pty.openpty()
+    with subprocess.Popen([program(), "export", EXAMPLES / "letters.tree"], stdin=subprocess.DEVNULL, stdout=terminal,
+                          stderr=subprocess.PIPE, text=True) as process:
+        os.close(terminal)
+        found, line = ended(process), process.stderr.read()
+    try:
+        seen = os.read(ours, 1000)
+    except OSError:
+        seen = b""
+    os.close(ours)
+    steps.check("export to a terminal is refused, and writes nothing there", found == 2 and not seen and
+                line.startswith("error: standard output is a terminal; "), f"{found}, {len(seen)} bytes: {line[:200]}")
+
+
 def try_limited(steps, folder):
     """Where SIGXFSZ is ignored, a limit on the length of files has a message, and nothing is left."""
     place = folder / "limited"
@@ -169,4 +185,5 @@ def try_limited(steps, folder):
                 b"File too large" in done.stderr and not list(place.iterdir()), done.stderr.decode())
 
 
-TRIALS = (try_refused, try_compressed, try_no_archive, try_input_kept, try_unread, try_limited)
+TRIALS = (try_refused, try_compressed, try_no_archive, try_input_kept, try_unread, try_unseen,
+          try_limited)

@@ -1,13 +1,14 @@
 """Signals at rest and within transfers, clients that go away, servers that are killed."""
 import os
+import pty
 import select
 import signal
 import subprocess
 import time
 
 import sftp3
-from serve_trials.steps import IS_PLAIN, KINDS, SIGNALS, Server
-from trials.processes import SOON, children_of, wait_until
+from serve_trials.steps import IS_PLAIN, KINDS, PROGRAM, SIGNALS, Server, command
+from trials.processes import SOON, children_of, ended, wait_until
 
 BLOCK = bytes(range(256)) * 128
 # 100 MB in 7 files, each below the 16 MiB that a file may have.
@@ -307,6 +308,21 @@ def other_pipes(steps, room):
     steps.check("--record FIFO that is read: the record is whole", b"/a" in (room.folder / "taken").read_bytes())
 
 
+def on_a_terminal(steps, room):
+    """Nobody types packets: a server that is started on a terminal says so, and makes no file."""
+    options = ("--tree", room.folder / "t", "--save", room.folder / "saved")
+    for name, words in (("the command", command(*options)), ("the program", [PROGRAM, "serve", *options])):
+        _, terminal = pty.openpty()
+        with subprocess.Popen(list(map(str, words)), stdin=terminal, stdout=subprocess.DEVNULL, stderr=subprocess.PIPE,
+                              text=True) as process:
+            status = ended(process)
+            process.kill()
+            said = process.stderr.read()
+        steps.check(f"{name} on a terminal: it says so, status 2", status == 2 and "input is a terminal" in said,
+                    f"{status}: {said[:200]}")
+        steps.check(f"{name} on a terminal: no file is made", room.left() == ["t"], f"{room.left()}")
+
+
 TRIALS = (at_rest, to_all, again, before_opening, within_upload, within_download, what_came, waiting_client,
           leaving_clients, broken_protocol, ignored, killed_server, killed_script, files_as_streams,
-          tree_from_pipe, other_pipes)
+          tree_from_pipe, other_pipes, on_a_terminal)

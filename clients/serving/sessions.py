@@ -242,6 +242,12 @@ def play(options: Options, log: Log, signs: Signals) -> int:
     return finish(saving, log, status) if saving else status
 
 
+def refuse_terminal():
+    """Raises Misused if standard input is a terminal, where nobody types packets."""
+    if os.isatty(0):
+        raise Misused(f"standard input is a terminal; let a client start the server: sftp -D '{NAME} --tree FILE'")
+
+
 def complain(text: str | None):
     """Prints what is wrong with a command line, or the help, and ends the program."""
     from serving.parsers import parser
@@ -257,6 +263,7 @@ def serve(words: list[str]) -> int:
         if "--help" in words or "-h" in words:
             complain(None)
         options = read(words)
+        refuse_terminal()
         signs = Signals()
         log = open_log(options)
         return play(options, log, signs)

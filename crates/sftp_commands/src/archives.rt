@@ -1,12 +1,12 @@
 //! The subcommands `import` and `export`: an archive as a tree file, and a tree file as an archive.
-ghost use Rattle.std.specs.Prelude.{◌≡◌, IfErr, IfOk, OnOk};
+ghost use Rattle.std.specs.Prelude.{◌≡◌, IfOk, OnOk};
 ghost use Rattle.std.specs.Io.KnownBytes.{Appends};
 ghost use Rattle.sftp_treefile.specs.TreeFile.{IsTreeFile};
 ghost use Rattle.sftp_tar.specs.Archive.{archive};
-ghost use Rattle.sftp_files.specs.Failures.{IsUsage};
 ghost use Rattle.sftp_files.specs.declared.messages.Ending.TheVariants as endings;
 
 use crate::faulty::{Found, START};
+use crate::terminals::refuse_terminal;
 use crate::trees::rows_in_view;
 use crate::twice::spare_input;
 use sftp_files::{
@@ -32,20 +32,9 @@ use std::{fmt, io};
 const NO_ARCHIVE: &str =
     "standard input is a terminal; give it an archive: tar -C FOLDER -c . | sftpv3 import FILE";
 
-/// Lets a run go on unless standard input is a terminal, where nobody types an archive.
-///
-/// # Errors
-///
-/// `Usage` if it is one.
-fn require_archive<'a, R: AllocGlobal, I: IsTerminal>(rt: &R, input: &I) -> Result<(), Failure<'a>>
-    ensures { IfErr result IsUsage }
-{
-    if input.is_terminal() {
-        Err(Failure::of_misuse(rt.alloc(), NO_ARCHIVE))
-    } else {
-        Ok(())
-    }
-}
+/// The message where nobody could read the archive.
+const NO_READER: &str =
+    "standard output is a terminal; give the archive to a file or a program: sftpv3 export FILE | tar -t";
 
 /// Writes the tree file of the archive on standard input, which is read an entry at a time. Nothing is read if the file
 /// cannot be written. The archive is judged before the file is written. Standard error names the devices and FIFOs that
@@ -59,7 +48,7 @@ pub fn import<'a, R: System + Clock, I: Read + IsTerminal, E: Write + IsTerminal
     ensures { IfOk result (λ ending. ending ≡ endings.Done) }
 {
     spare_input(rt, options.file)?;
-    require_archive(rt, &*input)?;
+    refuse_terminal(rt, &*input, NO_ARCHIVE)?;
     require_fit(rt, options.file)?;
     let mut meter = Meter::new(rt, options.memory)?;
     let imported = taken_in_view(rt, options.taking, &mut meter, input, console);
@@ -326,9 +315,9 @@ fn refused(
     }
 }
 
-/// Writes the archive of the tree file `name` to standard output, a member at a time. No more of the file is held than
-/// the tree and a buffer. The file is judged before the archive is written.
-pub fn export<'a, R: System + Clock, O: Write, E: Write + IsTerminal>(
+/// Writes the archive of the tree file `name` to standard output, a member at a time, unless that is a terminal. No
+/// more of the file is held than the tree and a buffer. The file is judged before the archive is written.
+pub fn export<'a, R: System + Clock, O: Write + IsTerminal, E: Write + IsTerminal>(
     rt: &R,
     name: &'a str,
     output: &mut O,
@@ -336,6 +325,7 @@ pub fn export<'a, R: System + Clock, O: Write, E: Write + IsTerminal>(
 ) -> Result<Ending, Failure<'a>>
     ensures { IfOk result (λ ending. ending ≡ endings.Done) }
 {
+    refuse_terminal(rt, &*output, NO_READER)?;
     match rows_in_view(rt, name, u64::MAX, Task::ReadTree, console)? {
         Ok(file) => {
             let written = write_archive(rt, &file, output, console);

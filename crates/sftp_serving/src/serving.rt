@@ -10,7 +10,9 @@ use crate::replaying::{Parting, Replay};
 use crate::summaries::{Close, Summary, Traffic};
 use sftp_audit::keep_freed_memory;
 use sftp_clock::TimeTable;
-use sftp_commands::{is_lost, read_tree, read_tree_looking, write_timed_tree, write_tree};
+use sftp_commands::{
+    is_lost, read_tree, read_tree_looking, refuse_terminal, write_timed_tree, write_tree,
+};
 use sftp_files::{
     Announcing, Bounded, Ending, Failure, Keeping, Meter, Record, Recording, STANDARD_INPUT,
     STANDARD_OUTPUT, ServeOptions, System, Watched, report, require_fit, write_flushed,
@@ -21,7 +23,7 @@ use sftp_tree::Tree;
 use sftp_treefile::TreeError;
 use sftp_vary::Style;
 use sftp_wire::Request;
-use std::io::{Read, Write};
+use std::io::{IsTerminal, Read, Write};
 use std::time::Clock;
 
 /// How many bytes are set aside for saving: buffers, and 32 bytes for each entry that a tree has at most, since the
@@ -34,6 +36,10 @@ const ROOM_FOR_TIMES: usize = 8_388_608;
 /// How many bytes the allocator keeps for a session after they were freed. Else each larger packet takes its memory
 /// from the system anew and gives it back.
 const KEPT: usize = 2 * 1_048_576;
+
+/// The message where no client can be.
+const NO_CLIENT: &str =
+    "standard input is a terminal; let a client start the server: sftp -D 'sftpv3 serve --tree FILE'";
 
 /// Why there cannot be two orders.
 const TWO_ORDERS: &str = "'--shuffle' and '--replay' cannot be used together";
@@ -58,8 +64,9 @@ impl<'a> From<Failure<'a>> for Unserved<'a> {
     }
 }
 
-/// Serves a session. The tree file is read and judged before the file of the record is made.
-pub fn serve<'a, R: System + Clock, I: Read, O: Write, E: Write>(
+/// Serves a session, unless the input is a terminal, where no client is. The tree file is read and judged before the
+/// file of the record is made.
+pub fn serve<'a, R: System + Clock, I: Read + IsTerminal, O: Write, E: Write>(
     rt: &R,
     options: &ServeOptions<'a>,
     style: Style,
@@ -69,6 +76,7 @@ pub fn serve<'a, R: System + Clock, I: Read, O: Write, E: Write>(
 ) -> Result<Ending, Unserved<'a>>
     ensures { IfOk result (λ ending. ending ≡ endings.Done) }
 {
+    refuse_terminal(rt, &*input, NO_CLIENT)?;
     require_place(rt, options)?;
     keep_freed_memory(rt.alloc(), KEPT);
     let mut meter = Meter::new(rt, options.memory)?;

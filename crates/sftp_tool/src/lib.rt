@@ -33,7 +33,8 @@ pub const VERSION: &str = "0.2.0";
 /// With status 2 or 3 the reason is written to `errors`. If `errors` cannot be written, the status is the same.
 /// `output` is flushed, unless a session stops because a stream fails or memory runs out. Only `serve`, `make` and
 /// `import` read `input`. Where `errors` is a terminal, `audit`, `diff`, `import` and `export` say there how far they
-/// are, while that takes more than two seconds.
+/// are, while that takes more than two seconds. `serve` and `import` refuse an `input` that is a terminal, `export` an
+/// `output`, with status 2.
 pub fn run<R, I, O, E>(
     rt: &R,
     words: &[String],
@@ -44,7 +45,7 @@ pub fn run<R, I, O, E>(
 where
     R: System + Clock,
     I: Read + IsTerminal,
-    O: Write,
+    O: Write + IsTerminal,
     E: Write + IsTerminal,
     ensures { result ≤ 3 }
 {
@@ -63,7 +64,7 @@ pub fn run_versioned<R, I, O, E>(
 where
     R: System + Clock,
     I: Read + IsTerminal,
-    O: Write,
+    O: Write + IsTerminal,
     E: Write + IsTerminal,
     ensures { result ≤ 3 }
 {
@@ -78,14 +79,20 @@ where
     }
 }
 
-fn perform<'a, R: System + Clock, I: Read + IsTerminal, O: Write, E: Write + IsTerminal>(
+fn perform<'a, R, I, O, E>(
     rt: &R,
     version: &'a str,
     words: &'a [String],
     input: &mut I,
     output: &mut O,
     errors: &mut E,
-) -> Result<Ending, Failure<'a>> {
+) -> Result<Ending, Failure<'a>>
+where
+    R: System + Clock,
+    I: Read + IsTerminal,
+    O: Write + IsTerminal,
+    E: Write + IsTerminal,
+{
     match parse(rt.alloc(), version, words) {
         Ok(request) => {
             let ending = perform_request(rt, &request, input, output, errors);
@@ -162,13 +169,19 @@ fn spot_of_request<R: Files + AllocGlobal>(
 }
 
 /// Does what is asked for. While it reads or writes what may be long, standard error says how far it is.
-fn perform_request<'a, R: System + Clock, I: Read + IsTerminal, O: Write, E: Write + IsTerminal>(
+fn perform_request<'a, R, I, O, E>(
     rt: &R,
     request: &Request<'a>,
     input: &mut I,
     output: &mut O,
     errors: &mut E,
-) -> Result<Ending, Failure<'a>> {
+) -> Result<Ending, Failure<'a>>
+where
+    R: System + Clock,
+    I: Read + IsTerminal,
+    O: Write + IsTerminal,
+    E: Write + IsTerminal,
+{
     match request {
         Request::Serve(options, style) => serve(rt, options, *style, input, output, errors),
         Request::Audit(files) => subcommands::audit(rt, files, output, errors),
@@ -219,7 +232,7 @@ fn console<E>(errors: &mut E, says_progress: bool) -> Console<'_, E> {
 }
 
 /// Serves a session. If its client broke the protocol, `errors` now says how.
-fn serve<'a, R: System + Clock, I: Read, O: Write, E: Write>(
+fn serve<'a, R: System + Clock, I: Read + IsTerminal, O: Write, E: Write>(
     rt: &R,
     options: &ServeOptions<'a>,
     style: Style,

@@ -5,16 +5,14 @@ ghost use Rattle.std.specs.Prelude.{◌≡◌, ◌≢◌, ◌≤◌, IfOk, IfErr
 ghost use Rattle.std.specs.IoError.{error_kind};
 ghost use Rattle.std.specs.declared.io.ErrorKind.TheVariants.{InvalidData};
 
+mod output;
 mod version;
 
-use std::io::{BufWriter, ErrorKind};
+use output::Output;
+use std::io::ErrorKind;
 use std::process::ExitCode;
 use std::{env, io};
 use version::VERSION;
-
-/// The size of the output buffer in bytes. It holds the replies to some 20 READDIRs; a DATA of 32 KiB is written
-/// without a further copy.
-const OUTPUT_BUFFER: usize = 32 * 1024;
 
 fn main(rt: HostRuntime) -> ExitCode {
     let outcome = run(&rt);
@@ -30,7 +28,7 @@ fn run(rt: &HostRuntime) -> io::Result<u8>
     ensures { IfOk result (λ status. status ≤ 3) }
 {
     let words: Vec<String> = env::args(rt)?.collect(rt.alloc())?;
-    let mut output = BufWriter::with_capacity(rt.alloc(), OUTPUT_BUFFER, rt.stdout())?;
+    let mut output = Output::new(rt.alloc(), rt.stdout())?;
     let mut input = rt.stdin();
     let mut errors = rt.stderr();
     Ok(sftp_tool::run_versioned(
