@@ -10,7 +10,7 @@ import time
 from pathlib import Path
 
 import sftp3
-from record_trials.steps import (INIT, STUB, TOP, close, errors, leave, meet, open_session, receive, receive_within,
+from record_trials.steps import (INIT, RECORD, STUB, TOP, close, errors, leave, meet, open_session, receive, receive_within,
                                  stubs)
 from sftp3 import request
 from trials.processes import SOON, ended, executable, make_user, remove_user, run, wait_until
@@ -83,6 +83,25 @@ def both_ways(steps, room):
     leave(process)
     records = sftp3.records(spool.records()[0].read_bytes())
     steps.check("and recorded", sorted(side for side, _ in records) == [b"C"] * 3 + [b"S"] * 3, str(records))
+
+
+# Runs a command where there is no /proc.
+WITHOUT_PROC = ["unshare", "--mount", "sh", "-c", 'mount -t tmpfs none /proc && exec "$@"', "sh"]
+
+
+def without_proc(steps, room):
+    """A spool in a ChrootDirectory, which has no /proc."""
+    if run([*WITHOUT_PROC, "true"]).returncode:
+        steps.skip("a spool without /proc", "nothing can be mounted here")
+        return
+    spool = Spool(room)
+    words = [*WITHOUT_PROC, RECORD, "--required", "--spool", spool.socket, STUB]
+    process = subprocess.Popen(list(map(str, words)), stdin=subprocess.PIPE, stdout=subprocess.PIPE,
+                               stderr=subprocess.PIPE, bufsize=0, cwd=room.folder)
+    room.started.append(process)
+    steps.check("a spool without /proc: a session runs", len(open_session(process)) == 9)
+    steps.check("its server is where the recorder was started", len(stubs(room.folder)) == 1)
+    steps.check("and it is recorded", leave(process) == 0 and len(spool.records()) == 1, errors(process))
 
 
 def lost_spools(steps, room):
@@ -349,5 +368,5 @@ def other_user(steps, room):
         remove_user(OTHER)
 
 
-TRIALS = (kept, both_ways, lost_spools, hanging_daemon, paused, begun_and_left, limits, hostile, unfit,
+TRIALS = (kept, both_ways, without_proc, lost_spools, hanging_daemon, paused, begun_and_left, limits, hostile, unfit,
           one_behind_another, activated, few_files, units, other_user)
