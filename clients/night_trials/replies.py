@@ -4,7 +4,8 @@ import time
 
 import sftp3
 from night_trials.place import ENDS_WELL, OLD, environment, rewrite
-from record_trials.steps import TOP
+from record_trials.steps import PROGRAM, TOP
+from trials.processes import executable
 from walk_trials.runs import BETWEEN, make_live
 
 # What a night says of a session in which a request has no reply. A record does not have why.
@@ -87,6 +88,23 @@ def cut_off(steps, place):
                 "whether its later replies are right", 1, f"  {ENDS_BEFORE}, and has its replies to ", " later ones: ")
 
 
+# A program that the system ends when it is asked which options it has, as where memory is short.
+KILLED = """#!/bin/sh
+[ "$1" = help ] && kill -KILL $$
+exec {program} "$@"
+"""
+
+
+def options_unknown(steps, place):
+    """Where the program does not say which options it has, no session is judged by fewer."""
+    place.begin("mkdir d")
+    rewrite(next(place.records.iterdir()), without_last)
+    killed = executable(place.room / "killed", KILLED.format(program=PROGRAM))
+    place.check(steps, "a program that is killed when it is asked for its options: status 3, and a line says so", 3,
+                f"{killed} help audit ended with status -9", program=killed)
+    place.check(steps, "and the record waits for a night that has them", 1, ": accepted ", ", 1 unanswered")
+
+
 def servers_with_faults(steps, place):
     """Each day there is a session with a server of one fault."""
     make_live(place.live)
@@ -101,4 +119,4 @@ def servers_with_faults(steps, place):
     place.check(steps, "and then a day without sessions", 0, "0 sessions accepted; " + ENDS_WELL)
 
 
-TRIALS = (wrong_replies, cut_off, servers_with_faults)
+TRIALS = (wrong_replies, cut_off, options_unknown, servers_with_faults)

@@ -104,6 +104,44 @@ def names_of_any_bytes(steps, place):
                 == ["a_root:_9_sessions_accepted__2J__.transcript"], place.kept("accepted"))
 
 
+# Locks as NFS has them, by flock(2): only who can write to a file locks it for itself alone. The state is not on NFS.
+ON_NFS = """
+import fcntl, stat
+hold = fcntl.flock
+def flock(file, how):
+    is_read = fcntl.fcntl(file, fcntl.F_GETFL) & os.O_ACCMODE == os.O_RDONLY
+    if how & fcntl.LOCK_EX and is_read and stat.S_ISREG(os.fstat(file).st_mode):
+        raise OSError(9, os.strerror(9))
+    return hold(file, how)
+fcntl.flock = flock
+"""
+# No locks at all, as on NFS without its daemon for locks.
+NO_LOCKS = """
+import fcntl, stat
+hold = fcntl.flock
+def flock(file, how):
+    if stat.S_ISREG(os.fstat(file).st_mode):
+        raise OSError(37, os.strerror(37))
+    return hold(file, how)
+fcntl.flock = flock
+"""
+
+
+def on_nfs(steps, place):
+    """A spool on NFS: sessions that have ended are judged, and those that run are waited for."""
+    place.begin("mkdir d")
+    on_nfs = changed(place, ON_NFS)
+    place.check(steps, "a spool on NFS: a session that has ended", 0, "1 session accepted; " + ENDS_WELL, script=on_nfs)
+    process = place.start()
+    place.check(steps, "and one that runs", 1, "still running", "the folder is not compared", script=on_nfs)
+    place.end(process)
+    place.check(steps, "and when it has ended", 0, "1 session accepted; " + ENDS_WELL, script=on_nfs)
+    place.session("rmdir d")
+    place.check(steps, "a spool without locks: nobody knows whether a session runs, and a line says so", 3,
+                "whether its session runs is not known: No locks available", script=changed(place, NO_LOCKS))
+    place.check(steps, "and the record waits", 0, "1 session accepted; " + ENDS_WELL)
+
+
 # A user who may make names beside the state.
 OTHER = 65534
 
@@ -182,4 +220,4 @@ def on_another_file_system(steps, place):
 
 
 TRIALS = (empty_records, started_nowhere, removed_meanwhile, hours_that_repeat, dates_to_come, names_of_any_bytes,
-          planted, full_state, on_another_file_system, of_others)
+          on_nfs, planted, full_state, on_another_file_system, of_others)

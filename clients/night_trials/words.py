@@ -2,6 +2,7 @@
 import fcntl
 import os
 import subprocess
+from pathlib import Path
 
 from night_trials.place import ENDS_WELL, USER, environment
 
@@ -42,4 +43,11 @@ def nobody_reads(steps, place):
     place.check(steps, "the next run says it", 0, ": accepted ", "1 session accepted; " + ENDS_WELL)
 
 
-TRIALS = (usage, nobody_reads)
+def no_state(steps, place):
+    """A state that cannot be made is named whole: the system makes no folder in /sys."""
+    place.state = Path("/sys/sftpv3-trial/state")
+    place.check(steps, "a state that cannot be made: status 3, and where", 3,
+                f"nightly: {place.state / USER}: ")
+
+
+TRIALS = (usage, nobody_reads, no_state)

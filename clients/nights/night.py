@@ -38,7 +38,11 @@ NEAR, NAMED = 200, 5
 def usual(program_file):
     """The options of an audit of users' sessions, as far as the program has them. The system gives what is made in a
     folder with the set-gid bit the folder's group."""
-    text = subprocess.run([program_file, "help", "audit"], stdout=subprocess.PIPE, check=False).stdout.decode()
+    done = subprocess.run([program_file, "help", "audit"], stdout=subprocess.PIPE, check=False)
+    if done.returncode:
+        # sessions are not judged by fewer options than the program has
+        raise Failed(f"{program_file} help audit ended with status {done.returncode}")
+    text = done.stdout.decode()
     profile = "posix-user" if "posix-user" in text else "posix"
     return ["--profile", profile] + ["--cut"] * ("--cut" in text) + ["--new-owner", "posix"] * ("group, posix" in text)
 

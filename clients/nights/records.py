@@ -116,9 +116,12 @@ class Record:
         if self.is_young():
             return True
         try:
-            fcntl.flock(self.file, fcntl.LOCK_EX | fcntl.LOCK_NB)
+            # NFS gives the other kind of lock only to who can write
+            fcntl.flock(self.file, fcntl.LOCK_SH | fcntl.LOCK_NB)
         except BlockingIOError:
             return True
+        except OSError as error:
+            raise Failed(f"{self.shown()}: whether its session runs is not known: {error.strerror}") from None
         return False
 
     def remove(self):

@@ -27,6 +27,9 @@ def commands(steps, room):
     ran = run(room, "t", "./plain")
     steps.check("a command that is not executable: status 126", ran.returncode == 126, str(ran.returncode))
     steps.check("a command that is not executable: one line", ran.stderr.count(b"\n") == 1, str(ran.stderr))
+    ran = run(room, "t", "internal-sftp", "-u", "022")
+    steps.check("what sshd has in itself: status 127, and which server to name", ran.returncode == 127 and
+                b"part of sshd; name the file of its server" in ran.stderr, str(ran))
     ran = run(room, "--help")
     steps.check("--help: status 0, on standard output", ran.returncode == 0 and b"--plain" in ran.stdout)
     for words in ((), ("t",), ("--unknown", "t", "true"), ("a%q", "true"), ("--audit", "t", "true"),

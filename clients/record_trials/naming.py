@@ -1,16 +1,18 @@
 """Names of transcripts, folders, links, times."""
+import fcntl
 import os
 import pwd
 import re
+import signal
 import stat
 import subprocess
 import time
 
 from record_trials.failing import run
-from record_trials.steps import INIT, RECORD, STUB, leave, open_session
+from record_trials.steps import INIT, RECORD, STUB, leave, meet, open_session, receive_within
 from recording.options import plainly_read
 from recording.parsers import record_parser
-from sftp3 import request
+from sftp3 import put_records, records, request
 from trials.processes import SOON
 
 
@@ -115,8 +117,37 @@ def pipes(steps, room):
     steps.check("a pipe of the shell, >(...), as transcript", room.read("through")[:9] == b"SFTPTR01C", str(ran))
 
 
+# F_SETPIPE_SZ of Linux, which Python 3.9 has not.
+SET_PIPE_SIZE = 1031
+
+
+def full_pipe(steps, room):
+    """A FIFO that is full when something comes both ways at once: nothing is lost, neither of the session nor of its
+    record."""
+    os.mkfifo(room.folder / "fifo")
+    reader = os.open(room.folder / "fifo", os.O_RDONLY | os.O_NONBLOCK)
+    fcntl.fcntl(reader, SET_PIPE_SIZE, 4096)
+    process = room.session("fifo", "late")
+    asked = [request(1, "STAT", b"/"), request(2, "WRITE", b"h", 0, bytes(range(256)) * 64)]
+    meet(process, *asked)
+    process.send_signal(signal.SIGCONT)
+    os.set_blocking(reader, True)
+    with subprocess.Popen(["cat"], stdin=reader, stdout=subprocess.PIPE) as cat:
+        os.close(reader)
+        got = receive_within(process, 42, 10)
+        steps.check("a FIFO that is full: what comes both ways at once is passed on", len(got) == 42,
+                    f"{len(got)} of 42")
+        leave(process)
+        data = cat.communicate(timeout=SOON)[0]
+    found = records(data)
+    sides = [b"".join(it for side, it in found if side == wanted) for wanted in (b"C", b"S")]
+    steps.check("and the record has it whole", put_records(found) == data and sides[0] == INIT + b"".join(asked) and
+                sides[1][9:] == got, f"{len(found)} records, {len(data)} bytes")
+
+
 def folders(steps, room):
-    for name, mode, is_warned in (("own", 0o700, False), ("sticky", 0o1777, False), ("open", 0o777, True)):
+    for name, mode, is_warned in (("own", 0o700, False), ("sticky", 0o1777, False), ("unlisted", 0o1733, False),
+                                  ("open", 0o777, True)):
         folder = room.folder / name
         folder.mkdir()
         folder.chmod(mode)
@@ -168,4 +199,4 @@ def times(steps, room):
             steps.check("a times file that is cut, has another opening or falls is refused", True)
 
 
-TRIALS = (names, taken_names, many_taken_names, locks, quick_starts, pipes, folders, times)
+TRIALS = (names, taken_names, many_taken_names, locks, quick_starts, pipes, full_pipe, folders, times)

@@ -10,7 +10,8 @@ import time
 from pathlib import Path
 
 import sftp3
-from record_trials.steps import INIT, STUB, TOP, close, errors, leave, open_session, receive
+from record_trials.steps import (INIT, RECORD, STUB, TOP, close, errors, leave, meet, open_session, receive, receive_within,
+                                 stubs)
 from sftp3 import request
 from trials.processes import SOON, ended, executable, make_user, remove_user, run, wait_until
 
@@ -67,6 +68,42 @@ def kept(steps, room):
     steps.check("the daemon ends with status 0", spool.end() == 0)
 
 
+def both_ways(steps, room):
+    """What comes both ways at once is recorded one after the other, and passed on, also if the daemon takes a while."""
+    spool = Spool(room)
+    process = spool.session("late")
+    open_session(process)
+    meet(process, request(1, "STAT", b"/"), request(2, "STAT", b"/"))
+    spool.daemon.send_signal(signal.SIGSTOP)
+    process.send_signal(signal.SIGCONT)
+    time.sleep(0.5)
+    spool.daemon.send_signal(signal.SIGCONT)
+    got = receive_within(process, 42, 10)
+    steps.check("a request and a reply that come at once: both are passed on", len(got) == 42, f"{len(got)} of 42")
+    leave(process)
+    records = sftp3.records(spool.records()[0].read_bytes())
+    steps.check("and recorded", sorted(side for side, _ in records) == [b"C"] * 3 + [b"S"] * 3, str(records))
+
+
+# Runs a command where there is no /proc.
+WITHOUT_PROC = ["unshare", "--mount", "sh", "-c", 'mount -t tmpfs none /proc && exec "$@"', "sh"]
+
+
+def without_proc(steps, room):
+    """A spool in a ChrootDirectory, which has no /proc."""
+    if run([*WITHOUT_PROC, "true"]).returncode:
+        steps.skip("a spool without /proc", "nothing can be mounted here")
+        return
+    spool = Spool(room)
+    words = [*WITHOUT_PROC, RECORD, "--required", "--spool", spool.socket, STUB]
+    process = subprocess.Popen(list(map(str, words)), stdin=subprocess.PIPE, stdout=subprocess.PIPE,
+                               stderr=subprocess.PIPE, bufsize=0, cwd=room.folder)
+    room.started.append(process)
+    steps.check("a spool without /proc: a session runs", len(open_session(process)) == 9)
+    steps.check("its server is where the recorder was started", len(stubs(room.folder)) == 1)
+    steps.check("and it is recorded", leave(process) == 0 and len(spool.records()) == 1, errors(process))
+
+
 def lost_spools(steps, room):
     for name, options, is_required in (("a daemon that ends", (), False), ("--required: a daemon that ends", (), True)):
         spool = Spool(room)
@@ -106,6 +143,27 @@ def hanging_daemon(steps, room):
         steps.check(f"{name}: a line says so", "has not replied" in errors(process))
         spool.daemon.send_signal(signal.SIGCONT)
         spool.end()
+
+
+def paused(steps, room):
+    """A machine that is paused while a batch is at the daemon: that time is none in which the daemon hung."""
+    spool = Spool(room)
+    process = spool.session(options=["--required"])
+    open_session(process)
+    stopped = [spool.daemon.pid, process.pid, *stubs(room.folder)]
+    os.kill(spool.daemon.pid, signal.SIGSTOP)
+    process.stdin.write(request(1, "STAT", b"/"))
+    time.sleep(0.5)
+    for it in stopped:
+        os.kill(it, signal.SIGSTOP)
+    time.sleep(12)
+    for it in reversed(stopped):
+        os.kill(it, signal.SIGCONT)
+        time.sleep(0.2)
+    got = receive(process, 21)
+    steps.check("a pause of the machine of 12 seconds: the session goes on", (len(got), leave(process)) == (21, 0),
+                errors(process))
+    steps.check("and is recorded", len(sftp3.records(spool.records()[0].read_bytes())) == 4)
 
 
 def begun_and_left(steps, room):
@@ -216,18 +274,21 @@ def activated(steps, room):
     """The socket that systemd opens."""
     folder = room.folder / "spool"
     folder.mkdir(mode=0o700)
-    path = room.folder / "socket"
+    paths = [room.folder / "socket", room.folder / "socket-of-a-new-root"]
     try:
-        daemon = subprocess.Popen(["systemd-socket-activate", "-l", path, DAEMON, folder], stderr=subprocess.DEVNULL)
+        daemon = subprocess.Popen(["systemd-socket-activate", *(word for it in paths for word in ("-l", it)), DAEMON,
+                                   folder], stderr=subprocess.DEVNULL)
     except FileNotFoundError:
         steps.skip("socket activation", "systemd-socket-activate is not installed")
         return
     room.started.append(daemon)
-    wait_until(path.exists)
-    process = room.start("--required", "--spool", path, STUB)
-    steps.check("with socket activation: the session runs", len(open_session(process)) == 9)
-    steps.check("with socket activation: it is recorded", leave(process) == 0 and
-                len(list(folder.glob("*/*.transcript"))) == 1)
+    for number, path in enumerate(paths, 1):
+        wait_until(path.exists)
+        process = room.start("--required", "--spool", path, STUB)
+        name = f"with socket activation, by socket {number} of 2"
+        steps.check(f"{name}: the session runs", len(open_session(process)) == 9)
+        steps.check(f"{name}: it is recorded", leave(process) == 0 and
+                    wait_until(lambda: len(list(folder.glob("*/*.transcript"))) == number, 5))
 
 
 def few_files(steps, room):
@@ -307,5 +368,5 @@ def other_user(steps, room):
         remove_user(OTHER)
 
 
-TRIALS = (kept, lost_spools, hanging_daemon, begun_and_left, limits, hostile, unfit, one_behind_another, activated,
-          few_files, units, other_user)
+TRIALS = (kept, both_ways, without_proc, lost_spools, hanging_daemon, paused, begun_and_left, limits, hostile, unfit,
+          one_behind_another, activated, few_files, units, other_user)

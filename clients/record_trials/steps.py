@@ -1,7 +1,10 @@
 """Starts recorders, and speaks to them."""
 import os
+import select
+import signal
 import subprocess
 import tempfile
+import time
 from pathlib import Path
 
 import sftp3
@@ -86,10 +89,31 @@ def receive(process, count):
     return sessions.receive(process.stdout.fileno(), count)
 
 
+def receive_within(process, count, seconds):
+    """The same, or what comes within so many seconds."""
+    data, end = b"", time.monotonic() + seconds
+    while len(data) < count and select.select([process.stdout], [], [], max(0, end - time.monotonic()))[0]:
+        piece = os.read(process.stdout.fileno(), count - len(data))
+        if not piece:
+            break
+        data += piece
+    return data
+
+
 def open_session(process):
     """Sends an INIT and awaits the stub's VERSION."""
     process.stdin.write(INIT)
     return receive(process, 9)
+
+
+def meet(process, first, second):
+    """Has a request come in the very round in which the reply to the one before it does: when both are there, the
+    recorder is stopped, and sees neither until it goes on. The stub is `late`."""
+    process.stdin.write(first)
+    time.sleep(0.5)
+    process.send_signal(signal.SIGSTOP)
+    time.sleep(2.5)
+    process.stdin.write(second)
 
 
 def leave(process):

@@ -35,6 +35,8 @@ CONNECTIONS = 1000
 BACKLOG, TAKEN = 1024, 128
 # How long no connection is taken when there are no descriptors left.
 PAUSE = 0.5
+# The first descriptor that systemd gives (sd_listen_fds).
+FIRST_GIVEN = 3
 # What is said of such users, whichever they are: there can be thousands.
 NO_ACCOUNT = "this user has no account (--any-uid)"
 
@@ -170,6 +172,16 @@ def listening_at(place):
     return listener, made
 
 
+def given_by_systemd():
+    """The sockets that systemd opened for this process: one for each root from which recorders connect."""
+    is_ours = os.environ.get("LISTEN_PID") == str(os.getpid())
+    count = int(os.environ.get("LISTEN_FDS", "0")) if is_ours else 0
+    opened = [socket.socket(fileno=FIRST_GIVEN + it) for it in range(count)]
+    for it in opened:
+        refuse_descriptors(it)
+    return opened
+
+
 def identity(found):
     """Which socket it is: another one may get the number of one that is gone."""
     return found.st_ino, found.st_mtime_ns
@@ -184,8 +196,9 @@ class Daemon:
         self.accounts, self.closing = Accounts(), Closing()
         # where the socket is that was made here, and which one it is
         self.made = self.identity = None
-        self.listener = self.open_listener(options.socket)
-        self.listener.setblocking(False)
+        self.listeners = {it.fileno(): it for it in self.open_listeners(options.socket)}
+        for it in self.listeners.values():
+            it.setblocking(False)
         self.connections, self.counts = {}, {}
         # when connections are taken again, when the silent ones were looked for, what was said of a user and when
         self.paused = self.looked = 0.0
@@ -206,18 +219,17 @@ class Daemon:
             raise Unfit(f"the spool {name} can be entered by every user: chmod o= {name}")
         return spool
 
-    def open_listener(self, name):
-        """The socket that systemd opened, or one of this name."""
-        if os.environ.get("LISTEN_PID") == str(os.getpid()) and os.environ.get("LISTEN_FDS", "0") != "0":
-            listener = socket.socket(fileno=3)
-            refuse_descriptors(listener)
-            return listener
+    def open_listeners(self, name):
+        """The sockets that systemd opened, or one of this name."""
+        opened = given_by_systemd()
+        if opened:
+            return opened
         if not name:
             raise Unfit("--socket is needed, unless systemd opens the socket")
         try:
             self.made = ways.location_of(name)
             listener, self.identity = listening_at(self.made)
-            return listener
+            return [listener]
         except OSError as error:
             raise Unfit(f"cannot make the socket {name}: {error.strerror}") from None
 
@@ -230,11 +242,11 @@ class Daemon:
         if found and identity(found) == self.identity:
             self.made.remove()
 
-    def accept(self):
-        """Takes the connections that wait, as many as one round allows."""
+    def accept(self, listener):
+        """Takes the connections that wait there, as many as one round allows."""
         try:
             for _ in range(TAKEN):
-                self.add(self.listener.accept()[0])
+                self.add(listener.accept()[0])
         except BlockingIOError:
             pass
         except OSError as error:
@@ -315,8 +327,8 @@ class Daemon:
         looking = select.poll()
         looking.register(self.signals.ours, select.POLLIN)
         is_paused = time.monotonic() < self.paused
-        if not is_paused:
-            looking.register(self.listener, select.POLLIN)
+        for it in () if is_paused else self.listeners:
+            looking.register(it, select.POLLIN)
         for it in self.connections.values():
             looking.register(it, it.events())
         left = [it for it in self.connections.values() if self.is_at_work(it)]
@@ -324,8 +336,8 @@ class Daemon:
         for it in left:
             found.setdefault(it.fileno(), select.POLLIN)
         for file, events in found.items():
-            if file == self.listener.fileno():
-                self.accept()
+            if file in self.listeners:
+                self.accept(self.listeners[file])
             elif file in self.connections:
                 self.act(self.connections[file], events)
         self.end_silent_ones()
@@ -336,7 +348,8 @@ class Daemon:
         while not self.signals.got:
             self.step()
         # not closed before this process ends, when no close lingers: descriptors may be with those who wait there
-        self.listener.detach()
+        for it in self.listeners.values():
+            it.detach()
         self.remove_socket()
         for it in list(self.connections.values()):
             self.finish(it)

@@ -12,6 +12,7 @@ import time
 from recording import signals
 from recording.greetings import text_at
 from recording.packets import Flow
+from recording.pauses import Clock
 from recording.sinks import Failed
 from recording.starts import widen
 
@@ -21,6 +22,8 @@ KILL = 0.3
 # How long a server may outlive SIGKILL, as in a call that waits for a disk.
 LOST = 1.0
 TICK = 0.05
+# How long a sink that is busy is waited for at a time.
+BUSY = 1
 
 # How much a pipe from the client is to hold. One to the client is as quick as it is.
 PIPE = 1 << 18
@@ -88,6 +91,7 @@ class Session:
         self.audit = None
         # a direction whose last packets are not yet recorded, and since when
         self.waiting, self.waited = None, 0.0
+        self.clock = Clock()
         self.status = None
         self.has_input = self.has_output = self.has_client_input = self.has_client_output = True
         self.ending = None
@@ -145,7 +149,7 @@ class Session:
             self.put(flow.side, packets)
         if flow.too_long is not None and self.is_read():
             self.lose_packets(flow)
-        self.waiting, self.waited = flow, time.monotonic()
+        self.waiting, self.waited = flow, self.clock.now()
         self.pass_on_if_recorded()
 
     def lose_packets(self, flow):
@@ -188,7 +192,7 @@ class Session:
     def give_up_stalled(self):
         """Goes on without a record that took too long for a batch."""
         patience = self.record and self.record.patience
-        if patience and self.record.is_busy() and time.monotonic() - self.waited > patience:
+        if patience and self.record.is_busy() and self.clock.now() - self.waited > patience:
             self.lose_record(f"the spool {self.record.name} has not replied for {patience} seconds")
             self.pass_on_if_recorded()
 
@@ -203,6 +207,11 @@ class Session:
             self.note_moved()
         return count
 
+    def take_if_recorded(self, flow):
+        """The same, unless what was taken before is not recorded yet."""
+        if not self.waiting:
+            self.take(flow)
+
     def give(self, flow):
         count = flow.give()
         if count > 0 and self.ending is not None and (flow is self.asked or self.awaiting.was_taken(count)):
@@ -212,7 +221,7 @@ class Session:
 
     def note_moved(self):
         """In an ending session: something moved that is awaited."""
-        self.moved = time.monotonic()
+        self.moved = self.clock.now()
         self.awaiting.look()
 
     def break_target(self, flow):
@@ -252,7 +261,7 @@ class Session:
 
     def begin_ending(self):
         if self.ending is None:
-            self.ending = self.worked = time.monotonic()
+            self.ending = self.worked = self.clock.now()
             self.note_moved()
 
     def note_server(self, what):
@@ -315,7 +324,7 @@ class Session:
 
     def hurry(self):
         """In an ending session: ends a server that does not end."""
-        now = time.monotonic()
+        now = self.clock.now()
         if self.killing:
             if now - self.killing[-1] >= (KILL if len(self.killing) == 1 else LOST):
                 self.kill(now)
@@ -378,16 +387,21 @@ class Session:
                 if self.registered.get(file) != events:
                     self.poll.register(file, events)
             self.registered = wanted
-        return self.poll.poll(1000 * TICK if self.ending is not None else 1000 if self.waiting else None)
+        most = TICK if self.ending is not None else BUSY if self.waiting else None
+        found = self.poll.poll(None if most is None else 1000 * most)
+        # where it may take any time, nobody counts it
+        self.clock.look(float("inf") if most is None else most)
+        return found
 
     def act(self, file, found):
-        """Does what the events of a descriptor ask for, unless what came before in the same round closed it."""
+        """Does what the events of a descriptor ask for, unless what came before in the same round closed it, or is not
+        recorded yet."""
         if file == self.signals.ours:
             self.signals.drain()
         elif file == self.ends.input and self.has_client_input:
-            self.take(self.asked)
+            self.take_if_recorded(self.asked)
         elif file == self.server.output and self.has_output:
-            self.take(self.replied)
+            self.take_if_recorded(self.replied)
         elif file == self.server.input and self.has_input:
             self.reach(self.asked, found)
         elif file == self.ends.output and self.has_client_output:

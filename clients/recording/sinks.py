@@ -127,7 +127,7 @@ class SpoolSink:
         try:
             place, _ = ways.led_to(name)
             with place:
-                self.connect(place.by_descriptor())
+                self.connect(place)
                 self.look_who_listens(place)
             text = claimed.encode(errors="replace")[:255]
             self.socket.sendall(SPOOL_OPENING + bytes([len(text)]) + text)
@@ -138,12 +138,26 @@ class SpoolSink:
             raise Failed(f"the spool {name} does not record this session")
         self.socket.setblocking(False)
 
-    def connect(self, name):
+    def connect(self, place):
         """Connects, and waits for a daemon that has much to do."""
         import socket
         self.socket.setsockopt(socket.SOL_SOCKET, socket.SO_SNDTIMEO, struct.pack("@ll", SPOOL_SECONDS, 0))
-        self.socket.connect(name)
+        try:
+            self.socket.connect(place.by_descriptor())
+        except FileNotFoundError:
+            # there may be no /proc, as in a ChrootDirectory
+            self.connect_from(place)
         self.socket.settimeout(SPOOL_SECONDS)
+
+    def connect_from(self, place):
+        """Connects from the folder of the socket, and goes back to where the process is."""
+        here = os.open(".", ways.HELD)
+        try:
+            os.fchdir(place.folder)
+            self.socket.connect(place.name)
+        finally:
+            os.fchdir(here)
+            os.close(here)
 
     def look_who_listens(self, place):
         """Refuses a socket that another user could have made in place of the daemon's."""

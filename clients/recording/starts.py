@@ -29,9 +29,14 @@ def exit_code(process: int) -> int | None:
     return os.waitstatus_to_exitcode(status) if ended else None
 
 
+# Why this command of sshd_config cannot run behind another one.
+INTERNAL = "internal-sftp", "it is a part of sshd; name the file of its server, such as /usr/lib/openssh/sftp-server"
+
+
 class NotStarted(Exception):
     """A command that cannot run, and the status for it, as shells have it."""
 
     def __init__(self, command: str, error: Exception):
-        super().__init__(f"cannot run {command}: {getattr(error, 'strerror', error)}")
+        why = INTERNAL[1] if command == INTERNAL[0] else getattr(error, "strerror", error)
+        super().__init__(f"cannot run {command}: {why}")
         self.status = 127 if isinstance(error, (FileNotFoundError, NotADirectoryError)) else 126

@@ -189,6 +189,8 @@ class Way:
             os.mkdir(name, 0o700, dir_fd=self.held[-1])
         except FileExistsError:
             pass
+        except OSError as error:
+            raise self.error(error.errno, error.strerror, (*self.place, name)) from None
 
 
 def from_root(path: bytes) -> bytes:

@@ -1,10 +1,11 @@
 """Files of --save: several sessions, folders, full disks, links, permissions, other users."""
+import errno
 import os
 import resource
 import signal
 import subprocess
 
-from serve_trials.steps import PROGRAM, SIGNALS
+from serve_trials.steps import IS_PLAIN, PROGRAM, SIGNALS, Server
 from trials.disks import fill, small_disk
 from trials.processes import limited, make_user, remove_user
 
@@ -243,6 +244,35 @@ def held_lock(steps, room):
                 room.names("t.2") == ["/a"] and room.names() == [], f"{status} {room.left()}")
 
 
+# Runs the script as on a file system without hard links, which says so by this error.
+WITHOUT_LINKS = """
+import os, runpy, sys
+def link(*_, **__):
+    raise OSError({number}, os.strerror({number}))
+os.link = link
+sys.argv[:1] = []
+runpy.run_path(sys.argv[0], run_name="__main__")
+"""
+
+
+def without_links(steps, room):
+    """A tree gets a new name also where there are no hard links, and replaces nothing."""
+    if IS_PLAIN:
+        return
+    for number in (errno.EPERM, errno.EOPNOTSUPP, errno.ENOSYS):
+        name, said = f"new-{number}", f"{os.strerror(number)} of hard links"
+        words = ["/usr/bin/python3", "-ISc", WITHOUT_LINKS.format(number=number), *room.serve_words("--save", name)]
+        servers = [Server(words, "sockets", room.folder) for _ in "ab"]
+        room.servers += servers
+        for server, it in zip(servers, "ab"):
+            steps.check(f"{said}: a session begins", server.open() and server.make(f"/{it}"))
+        statuses = [finish(it) for it in servers]
+        found = [room.names(it) for it in (name, f"{name}.2")]
+        is_tidy = not [it for it in room.left() if "serve-" in it]
+        steps.check(f"{said}: both trees are saved, and nothing else is left", statuses == [0, 0] and is_tidy and
+                    found == [["/a"], ["/b"]], f"{statuses} {found} {room.left()}")
+
+
 def malformed(steps, room):
     (room.folder / "bad").write_text("no tree")
     server = room.serve("--save", "t", tree="bad")
@@ -271,4 +301,4 @@ def few_descriptors(steps, room):
 
 
 TRIALS = (one_after_the_other, two_at_once, many_that_end_at_once, another_file, changed_meanwhile, links, no_files,
-          full_disk, other_users, lost_folder, held_lock, malformed, few_descriptors)
+          full_disk, other_users, lost_folder, held_lock, without_links, malformed, few_descriptors)

@@ -17,6 +17,8 @@ from recording import ways
 # How long another session may hold the lock, and how many names are tried in turn.
 PATIENCE = 5.0
 NAMES = 10_000
+# What file systems without hard links say of one.
+NO_LINKS = (errno.EPERM, errno.EOPNOTSUPP, errno.ENOSYS)
 
 
 class Unfit(Exception):
@@ -136,13 +138,25 @@ class Saving:
         for end in ["", *(f".{number}" for number in range(2, NAMES))]:
             place = self.target.with_end(end)
             try:
-                self.side.link_to(place)
+                self.take(place)
             except FileExistsError:
                 continue
-            self.side.remove()
             self.sync()
             return place.path
         raise OSError(errno.EEXIST, "all names are taken")
+
+    def take(self, place: ways.Location):
+        """Gives the tree this name. Raises FileExistsError if something has it."""
+        try:
+            self.side.link_to(place)
+        except OSError as error:
+            if error.errno not in NO_LINKS:
+                raise
+            # an empty file has the name until the tree does
+            os.close(place.make())
+            self.side.rename_to(place)
+        else:
+            self.side.remove()
 
     def sync(self):
         """Waits until the new name is on the disk, as far as the system can say."""

@@ -288,6 +288,14 @@ def try_forced(steps, where, nightly):
     time.sleep(0.5)
 
 
+def try_no_shell(steps, where):
+    """An account whose shell runs nothing has no recorder, and so no SFTP, as the page says."""
+    run(["usermod", "--shell", "/usr/sbin/nologin", where.user])
+    ran = where.batch("ls")
+    run(["usermod", "--shell", "/bin/sh", where.user])
+    steps.check("an account with nologin has no session, as the page says", ran.returncode != 0, ran.stdout)
+
+
 LIMITS = "!grep -e 'address space' -e 'core file' /proc/$(pgrep -x sftpv3)/limits\n"
 
 

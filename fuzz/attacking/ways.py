@@ -104,18 +104,20 @@ def serve(field, name):
 
 
 def daemon(folder, name):
+    """A daemon that listens no more."""
     given = argparse.Namespace(spool=folder, socket=name, records_per_user=9, keep_free=0, per_user=9, per_session=9)
-    return keeping.Daemon(given, notices.Notices("test"), None)
+    made = keeping.Daemon(given, notices.Notices("test"), None)
+    for it in made.listeners.values():
+        it.close()
+    return made
 
 
 def listen(field, name):
-    held = daemon(field.path("spool"), name)
-    held.listener.close()
+    daemon(field.path("spool"), name)
 
 
 def keep_in_spool(field, name):
     held = daemon(name, field.path("socket"))
-    held.listener.close()
     with held.shares.begin(0, "a") as place:
         os.close(naming.open_anew(place)[0])
 
