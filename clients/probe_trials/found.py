@@ -160,6 +160,16 @@ def try_longest_handles(steps, _):
     steps.check("handles of 256 bytes: accepted", status == 0, said)
 
 
+def try_shell(steps, folder):
+    """A crash at the end is one also if a shell runs the server, and tells it by its own status."""
+    shell = ["sh", "-c", '"$@"; exit $?', "sh"]
+    words = ["--seeds", "1", "--requests", "10", "--skip", "transfers", "--budget", "0"]
+    status, said, _ = probe(*words, "--keep", os.path.join(folder, "shell"), "--", *shell,
+                            *misbehaving("end-by-signal"))
+    steps.check("a server that crashes at its end behind a shell differs",
+                status == 1 and "the server ended with status 134" in said, said)
+
+
 def try_log(steps, folder):
     """The last lines of a server that ends, and the last 64 KiB of one that says much."""
     status, said, _ = probe("--seeds", "1", "--keep", os.path.join(folder, "said"), "--", *misbehaving("crash"))
@@ -200,5 +210,5 @@ def try_independent(steps, folder):
                 len(leaders) <= 2, said)
 
 
-TRIALS = (try_found, try_hints, try_advice, try_link_order, try_unknown_handles, try_longest_handles, try_log,
-          try_intermittent, try_independent)
+TRIALS = (try_found, try_hints, try_advice, try_link_order, try_unknown_handles, try_longest_handles, try_shell,
+          try_log, try_intermittent, try_independent)

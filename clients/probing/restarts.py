@@ -28,6 +28,12 @@ class Restarts:
         self.is_together = is_together
         self.done = self.failed = 0
         self.why = None
+        # whether what a server started did not end in time once
+        self.goes_on = False
+
+    def grace(self):
+        """For how many seconds it is waited for what a server left. That which goes on is waited for only once."""
+        return servers.GRACE if self.goes_on else self.parting
 
     def succeeded(self):
         with self.lock:
@@ -71,17 +77,27 @@ def left_open(records):
 def play(server, tree_file, steps, in_flight, timeout, stop, cut, restarts):
     """The session of these steps, those behind a second start with it, if there are some and it can be made."""
     before, behind = plans.parted(steps)
-    behind = behind if restarts.is_wanted else []
-    parting = restarts.parting if behind else servers.PARTING
-    if restarts.is_together:
-        session = together.play(server, tree_file, before, timeout, stop, cut, parting)
-    else:
-        session = sessions.play(server, tree_file, before, in_flight, timeout, stop, cut, parting)
-    if behind and session.status is None and session.end is None:
-        restarts.fail(f"the server does not end within {parting:g} seconds after its input has", for_good=True)
-    elif behind and session.is_over():
-        go_on(session, server, tree_file, behind, timeout, stop, restarts)
+    if not (behind and restarts.is_wanted):
+        return first(server, tree_file, before, in_flight, timeout, stop, cut, servers.PARTING, restarts)
+    held = servers.Held(server.leftovers, restarts.grace(), stop)
+    try:
+        session = first(held.of(server), tree_file, before, in_flight, timeout, stop, cut, restarts.parting, restarts)
+        restarts.goes_on = restarts.goes_on or held.goes_on
+        if session.status is None and session.end is None:
+            restarts.fail(f"the server does not end within {restarts.parting:g} seconds after its input has",
+                          for_good=True)
+        elif session.is_over():
+            go_on(session, server, tree_file, behind, timeout, stop, restarts)
+    finally:
+        held.end()
     return session
+
+
+def first(server, tree_file, steps, in_flight, timeout, stop, cut, parting, restarts):
+    """The session of the steps before a second start. The server has so many seconds to end."""
+    if restarts.is_together:
+        return together.play(server, tree_file, steps, timeout, stop, cut, parting)
+    return sessions.play(server, tree_file, steps, in_flight, timeout, stop, cut, parting)
 
 
 def go_on(session, server, tree_file, steps, timeout, stop, restarts):

@@ -392,17 +392,18 @@ def end(is_meant):
             return
 
 
-def await_end(is_meant):
-    """Gives the children that are meant some time to end by themselves."""
-    deadline = time.monotonic() + GRACE
-    while time.monotonic() < deadline:
+def await_end(is_meant, seconds=GRACE, stop=None):
+    """Gives the children that are meant some time to end by themselves, and says whether they did."""
+    deadline = time.monotonic() + seconds
+    while time.monotonic() < deadline and not (stop and stop.is_set()):
         found = [it for it in children() if is_meant(it)]
         for process in found:
             with suppress(ChildProcessError):
                 os.waitpid(process, os.WNOHANG)
         if not found:
-            return
+            return True
         time.sleep(0.02)
+    return False
 
 
 def has_ended(process):
@@ -438,13 +439,19 @@ class Leftovers:
         """The value of the variable for a server."""
         return f"{self.run}-{os.urandom(8).hex()}"
 
-    def end_session(self, mark, server):
-        """Ends what a server left that has ended itself."""
+    @staticmethod
+    def of_session(mark, server):
+        """What tells the processes that a server left from others."""
         def is_meant(process):
             if process == server:
                 return False
             state = state_of(process)
             return state is not None and (server in state[1:] or is_forgotten(process) or variable_of(process) == mark)
+        return is_meant
+
+    def end_session(self, mark, server):
+        """Ends what a server left that has ended itself."""
+        is_meant = self.of_session(mark, server)
         await_end(is_meant)
         end(is_meant)
 
@@ -453,3 +460,32 @@ class Leftovers:
         def is_meant(process):
             return self.is_alone and not has_reset or (variable_of(process) or "").startswith(self.run)
         end(is_meant)
+
+
+class Held:
+    """Takes the place of leftovers while a server is to be started again. What it left has so many seconds to end by
+    itself, since it may still write, and then goes on until all is over: what it would write later is not lost."""
+
+    def __init__(self, leftovers, seconds, stop):
+        self.leftovers, self.seconds, self.stop = leftovers, seconds, stop
+        self.ended, self.goes_on = [], False
+
+    def of(self, server):
+        """The server with these leftovers."""
+        found = copy.copy(server)
+        found.leftovers = self if self.leftovers else None
+        return found
+
+    def mark(self):
+        return self.leftovers.mark()
+
+    def end_session(self, mark, server):
+        """Waits for what a server left that has ended itself."""
+        self.ended.append((mark, server))
+        has_ended_all = await_end(self.leftovers.of_session(mark, server), self.seconds, self.stop)
+        self.goes_on = self.goes_on or not has_ended_all
+
+    def end(self):
+        """Ends what is left."""
+        for mark, server in self.ended:
+            self.leftovers.end_session(mark, server)

@@ -26,10 +26,14 @@ UNWANTED, REPLIES = 100, 1 << 26
 # The signals that a program gets for its own mistakes.
 CRASHES = {signal.SIGSEGV, signal.SIGABRT, signal.SIGBUS, signal.SIGFPE, signal.SIGILL, signal.SIGSYS, signal.SIGTRAP}
 
+# What a shell adds to the number of a signal, for its own exit status.
+SHELL = 128
+
 
 def is_crash(status):
-    """Whether a process with this exit status was ended by such a signal. `None` is one that had to be stopped."""
-    return status is not None and -status in CRASHES
+    """Whether a process with this exit status was ended by such a signal, or a shell says so of what it ran. `None` is
+    one that had to be stopped."""
+    return status is not None and (-status in CRASHES or status - SHELL in CRASHES)
 
 
 @dataclass

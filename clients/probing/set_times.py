@@ -15,7 +15,7 @@ from typing import Dict, Iterator, Optional, Set, Tuple
 import sftp3
 
 # Requests that change nothing, and those of them that may change when something was last read.
-LOOKERS = {"STAT", "LSTAT", "FSTAT", "READLINK", "REALPATH", "CLOSE"}
+LOOKERS = {"STAT", "LSTAT", "FSTAT", "READLINK", "REALPATH", "CLOSE", "FSYNC"}
 READERS = {"READ", "OPENDIR", "READDIR"}
 
 # Requests behind which another thing may be where a path leads.
@@ -47,11 +47,10 @@ class Followed:
     def differs(self, times: Tuple[int, int]) -> Optional[str]:
         """How these times differ from what was set, in words, or None."""
         access, modification = times
-        if self.access is not None and (access, modification) == (self.modification, self.access):
-            return SWAPPED
-        if modification != self.modification:
-            return MODIFICATION
-        return ACCESS if self.access not in (None, access) else None
+        is_right = self.access in (None, access)
+        if modification == self.modification:
+            return None if is_right else ACCESS
+        return SWAPPED if times == (self.modification, self.access) else MODIFICATION
 
 
 @dataclass
