@@ -1,6 +1,7 @@
 """Which reply is to which request, what was in flight meanwhile, and what overtook what, in a transcript, whose faults
 it names; and which records of a long session are shown: those round the difference, and those that it hangs on."""
 import heapq
+import itertools
 import os
 import stat
 from collections import Counter
@@ -147,29 +148,29 @@ def contents(name, most):
 
 
 def read(name, most):
-    """The records of a transcript of at most so many bytes, and what is wrong with its end: its last record may be cut,
-    or None."""
+    """The records of a transcript of at most so many bytes, up to the first that is none, and what is wrong with that;
+    None if all are right."""
     data = contents(name, most)
     if not data.startswith(sftp3.OPENING):
         raise Bad("it is no transcript: it does not begin with " + sftp3.OPENING.decode())
-    records = sftp3.records(data)
-    for number, (side, _) in enumerate(records, 1):
-        if side not in (b"C", b"S"):
-            raise Bad(f"record {number} is of no side: it begins with 0x{side[0]:02x}, which is neither C nor S")
+    records = list(itertools.takewhile(lambda record: record[0] in SIDES, sftp3.records(data)))
     if [(side, packet[4:5]) for side, packet in records[:2]] != [(b"C", b"\x01"), (b"S", b"\x02")]:
         raise Bad("it does not begin with an INIT and a VERSION")
-    return records, cut(data, records)
+    return records, fault(data, records)
 
 
-def cut(data, records):
-    """What is wrong behind the last whole record, or None."""
+SIDES = (b"C", b"S")
+
+
+def fault(data, records):
+    """What is wrong behind these records, which come first, or None."""
     place = len(sftp3.OPENING) + sum(1 + len(packet) for _, packet in records)
     left = len(data) - place
     if left == 0:
         return None
-    if data[place:place + 1] not in (b"C", b"S"):
-        raise Bad(f"record {len(records) + 1} is of no side: it begins with 0x{data[place]:02x}, "
-                  "which is neither C nor S")
+    if data[place:place + 1] not in SIDES:
+        return (f"record {len(records) + 1} is of no side: it begins with 0x{data[place]:02x}, which is neither C nor "
+                "S")
     count = sftp3.length(data[place + 1:place + 5])
     has = "no whole length" if count is None else f"{left - 1:,} of its {count:,} bytes"
     return f"record {len(records) + 1} is cut: the file ends after {has}"

@@ -7,7 +7,7 @@ from probe_trials.runs import PROBE, probe
 from probing import starting
 from probing.program import TOP, program
 from sftp3 import trees
-from trials.probes import misbehaving
+from trials.probes import faulty_before, misbehaving
 
 # Arguments with which there is nothing to play, or not what is asked for.
 BAD_USAGE = [["--seeds", "5-1"], ["--seeds", "x"], ["--seeds", ""], ["--in-flight", "0"], ["--in-flight", "5000"],
@@ -84,4 +84,17 @@ def try_file_named_twice(steps, folder):
                         "name one file" in said and file.read() == before, (status, said))
 
 
-TRIALS = (try_usage, try_unknown_words, try_unreadable, try_file_named_twice)
+def try_stand_ins(steps, _):
+    """What stands in front of a server, which authors of clients use, too: a line where the server does not run."""
+    for stand_in, name in ((misbehaving, "slow"), (faulty_before, "read-cut")):
+        words = stand_in(name, ["/nowhere/server"])
+        done = subprocess.run(words, input=sftp3.init(), capture_output=True, check=False)
+        steps.check(f"{name} of a server that is not there: status 127, and a line", done.returncode == 127 and
+                    b"cannot run /nowhere/server: No such file" in done.stderr and done.stderr.count(b"\n") == 1, done)
+        words = stand_in(name, [program(), "serve", "--tree", "/nowhere/tree"])
+        done = subprocess.run(words, input=sftp3.init(), capture_output=True, check=False)
+        steps.check(f"{name} of a server that ends at once: its status, and what it says", done.returncode == 3 and
+                    b"cannot read /nowhere/tree" in done.stderr and b"Traceback" not in done.stderr, done)
+
+
+TRIALS = (try_usage, try_unknown_words, try_unreadable, try_file_named_twice, try_stand_ins)

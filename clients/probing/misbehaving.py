@@ -7,7 +7,6 @@ text says what goes wrong. Requests are passed on one at a time.
 """
 import os
 import signal
-import subprocess
 import sys
 import time
 
@@ -396,10 +395,10 @@ class now_and_then(Healthy):
 
 
 class only_once(now_and_then):
-    """In the first session the 12th request gets a wrong reply."""
+    """In the first session after the probe's look at the root, the 12th request gets a wrong reply."""
 
     def version(self, packet):
-        self.wrong = sessions_before() == 0
+        self.wrong = sessions_before() == 1
         return packet
 
 
@@ -448,21 +447,31 @@ def packets_of(source):
         data += more
 
 
+def play(kind, server):
+    """Passes on what the client asks, and what the server replies, until the client's input ends."""
+    replies = packets_of(server.stdout.fileno())
+    for packet in packets_of(0):
+        asked = None if packet[4] == sftp3.INIT else sftp3.decode(packet)
+        if asked:
+            kind.count += 1
+            kind.before(asked)
+        write(server.stdin.fileno(), kind.request(asked, packet) if asked else packet)
+        write(1, kind.reply(asked, next(replies)) if asked else kind.version(next(replies)))
+    server.stdin.close()
+    write(1, kind.end())
+
+
 def main(kinds):
-    """Runs the server whose class the command line names."""
+    """Runs the server whose class the command line names. If that ends first, or the client is gone, its status is that
+    of this process."""
     chosen, command = planted.named(kinds)
-    kind = chosen()
-    with subprocess.Popen(command, stdin=subprocess.PIPE, stdout=subprocess.PIPE, bufsize=0) as server:
-        replies = packets_of(server.stdout.fileno())
-        for packet in packets_of(0):
-            asked = None if packet[4] == sftp3.INIT else sftp3.decode(packet)
-            if asked:
-                kind.count += 1
-                kind.before(asked)
-            write(server.stdin.fileno(), kind.request(asked, packet) if asked else packet)
-            write(1, kind.reply(asked, next(replies)) if asked else kind.version(next(replies)))
-        server.stdin.close()
-        write(1, kind.end())
+    with planted.started(command) as server:
+        try:
+            play(chosen(), server)
+            return
+        except (StopIteration, BrokenPipeError):
+            pass
+    os._exit(server.returncode if server.returncode >= 0 else 128 - server.returncode)
 
 
 if __name__ == "__main__":

@@ -11,6 +11,7 @@ import subprocess
 import sys
 import textwrap
 import threading
+from contextlib import suppress
 
 sys.path.insert(0, os.path.dirname(os.path.dirname(os.path.realpath(__file__))))
 
@@ -322,15 +323,17 @@ def write(target, packet):
 
 
 def pass_on(source, target, change, see=lambda left: None):
-    """Passes packets on until the stream ends, those that come together at once. `see` gets what is no whole packet."""
+    """Passes packets on until the stream ends, those that come together at once, or until nobody takes them. `see` gets
+    what is no whole packet."""
     left = b""
     piece = os.read(source, 1 << 18)
-    while piece:
-        found, left = packets_of(left + piece)
-        for packet in change(found):
-            write(target, packet)
-        see(left)
-        piece = os.read(source, 1 << 18)
+    with suppress(BrokenPipeError):
+        while piece:
+            found, left = packets_of(left + piece)
+            for packet in change(found):
+                write(target, packet)
+            see(left)
+            piece = os.read(source, 1 << 18)
     os.close(target)
 
 
@@ -358,9 +361,18 @@ def run(bug, command):
     os._exit(passed(bug, command))
 
 
+def started(command):
+    """The server, with pipes. If it cannot be run, a line says so, and the status is that of a shell."""
+    try:
+        return subprocess.Popen(command, stdin=subprocess.PIPE, stdout=subprocess.PIPE, bufsize=0)
+    except OSError as error:
+        print(f"{os.path.basename(sys.argv[0])}: cannot run {command[0]}: {error.strerror}", file=sys.stderr)
+        sys.exit(127)
+
+
 def passed(bug, command):
     """The same, and gives the server's exit status."""
-    server = subprocess.Popen(command, stdin=subprocess.PIPE, stdout=subprocess.PIPE, bufsize=0)
+    server = started(command)
     asked = os.dup(server.stdin.fileno())
     server.stdin.close()
     bug.pipe = asked

@@ -31,9 +31,13 @@ def planted(name):
     return stand_in("planted", name)
 
 
+def faulty_before(name, server):
+    return stand_in("faults", name, server)
+
+
 def faulty(name, *options):
     """The same, with the options that the server behind it needs."""
-    return stand_in("faults", name, serve(*options))
+    return faulty_before(name, serve(*options))
 
 
 def run_probe(*words):
