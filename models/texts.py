@@ -29,7 +29,6 @@ def print_comment(text):
 
 
 def print_lines(keyword, lines):
-    """Prints a block."""
     print("\n".join([keyword, *lines]))
 
 
@@ -129,7 +128,6 @@ def words_of_field(field, value):
 
 
 def text_of(packet):
-    """The line of a packet."""
     side = "C" if packet.name in SIDES[CLIENT] else "S"
     words = [side, *([] if packet.number is None else [str(packet.number)]), packet.name]
     if packet.name == "STATUS":
