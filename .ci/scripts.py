@@ -63,7 +63,6 @@ LATER = {"F_SETPIPE_SZ", "F_GETPIPE_SZ", "pairwise", "file_digest", "StrEnum", "
 
 
 def annotations_of(node: ast.AST) -> Iterator[ast.expr]:
-    """Yields the annotations of a definition or an assignment."""
     if isinstance(node, (ast.FunctionDef, ast.AnnAssign)):
         given = [it.annotation for it in ast.walk(node.args) if isinstance(it, ast.arg)] \
             if isinstance(node, ast.FunctionDef) else [node.annotation]

@@ -104,7 +104,6 @@ def of_write(rng, handles):
 
 
 def fields(rng, name, handles):
-    """The fields of a request of this name."""
     if name == "OPEN":
         return of_open(rng)
     if name in ("CLOSE", "FSTAT", "READDIR"):
@@ -150,7 +149,6 @@ def some_limits(rng):
 
 
 def some_times(rng, has_times):
-    """Times of an entry, or none."""
     if not has_times or rng.random() < 0.5:
         return NO_TIMES
     return rng.choice([(0, 1), (1, 0), (2**32 - 1, 2**32 - 1), (rng.choice(NUMBERS), rng.choice(NUMBERS))])
@@ -215,7 +213,6 @@ def change_bytes(rng, data):
 
 
 def change_records(rng, data):
-    """The transcript with its records changed."""
     found, _ = until_fault(data)
     if len(found) < 3:
         return change_bytes(rng, data)

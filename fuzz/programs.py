@@ -3,8 +3,10 @@ import functools
 import os
 import shutil
 import subprocess
+from pathlib import Path
 
 from probing.program import TOP
+from trials.processes import executable
 
 
 @functools.cache
@@ -24,9 +26,6 @@ def keep(name, command, why, files, copies=()):
     for copy in copies:
         shutil.copy(copy, folder)
     for file, data in files.items():
-        with open(os.path.join(folder, file), "wb") as it:
-            it.write(data)
-    with open(os.path.join(folder, "repeat"), "w") as it:
-        it.write(f"#!/bin/sh\n# {why}\ncd \"$(dirname \"$0\")\" || exit\n{command}\n")
-    os.chmod(os.path.join(folder, "repeat"), 0o755)
-    return os.path.join(folder, "repeat")
+        Path(folder, file).write_bytes(data)
+    return executable(os.path.join(folder, "repeat"),
+                      f"#!/bin/sh\n# {why}\ncd \"$(dirname \"$0\")\" || exit\n{command}\n")

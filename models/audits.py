@@ -23,10 +23,7 @@ class Auditor:
 
     def waiting(self, id):
         """The request that has this id and no reply, if there is one."""
-        for it in self.asked[self.done:]:
-            if it.reply is None and it.request.number == id:
-                return it
-        return None
+        return next((it for it in self.asked[self.done:] if it.reply is None and it.request.number == id), None)
 
     def ask(self, record, request):
         if self.waiting(request.number):

@@ -25,7 +25,7 @@ class Ask:
     def __init__(self, session, name, values):
         self.session, self.tree, self.name, self.values = session, session.tree, name, values
         self.flags_are_bad, self.path_is_bad, self.walks, self.further = False, False, [], set()
-        getattr(self, "judge_" + name.lower().replace("-", "_"))(*values)
+        JUDGES[name](self, *values)
         if not self.causes() and self.has_no_room():
             self.further.add("NoRoom")
 
@@ -52,15 +52,19 @@ class Ask:
 
     def has_no_room(self):
         """Whether a limit would be broken after the request."""
-        return getattr(self, "overfills_" + self.name.lower().replace("-", "_"), lambda: False)()
+        return self.name in OVERFILLS and OVERFILLS[self.name](self)
 
     # Requests by path.
 
-    def needs(self, path, follow):
-        """A place at which something has to be, or None."""
+    def leads(self, path, follow=False):
         self.place = self.walk(path, follow)
-        self.add("NoEntry", self.place is not None and self.kind(self.place) is None)
-        return self.kind(self.place)
+        return self.place
+
+    def needs(self, path, follow):
+        """A place at which something has to be: what is there, or None."""
+        kind = self.kind(self.leads(path, follow))
+        self.add("NoEntry", self.place is not None and kind is None)
+        return kind
 
     def judge_open(self, path, flags, given):
         has = {name for name, bit in FLAGS.items() if flags & bit}
@@ -68,34 +72,14 @@ class Ask:
                                   or has & {"TRUNC", "EXCL"} and "CREAT" not in has
                                   or has & {"TRUNC", "APPEND"} and "WRITE" not in has)
         self.flags = has
-        self.place = self.walk(path, follow="EXCL" not in has)
-        kind = self.kind(self.place)
+        kind = self.kind(self.leads(path, follow="EXCL" not in has))
         self.add("NoEntry", self.place is not None and kind is None and "CREAT" not in has)
         self.add("Exists", kind is not None and "EXCL" in has)
         self.add("IsDir", kind == "D" and "EXCL" not in has)
         self.makes = kind is None
 
-    def overfills_open(self):
-        return self.overfills_opendir() or self.makes and self.overfills_mkdir()
-
-    def judge_opendir(self, path):
-        kind = self.needs(path, follow=True)
-        self.add("NotDir", kind not in (None, "D"))
-
-    def overfills_opendir(self):
+    def has_all_handles(self):
         return len(self.session.open) >= self.tree.handle_limit
-
-    def judge_lstat(self, path):
-        self.needs(path, follow=False)
-
-    def judge_stat(self, path):
-        self.needs(path, follow=True)
-
-    def judge_realpath(self, path):
-        self.place = self.walk(path, follow=True)
-
-    def judge_readlink(self, path):
-        self.add("NotLink", self.needs(path, follow=False) in ("D", "F"))
 
     def judge_setstat(self, path, given):
         self.given = given
@@ -106,11 +90,9 @@ class Ask:
         opened = {it.file for it in self.session.open.values() if it.kind == "F"}
         return self.tree.overfills(number, size, opened)
 
-    def overfills_setstat(self):
-        return "size" in self.given and self.overfills(self.tree.nodes[self.place][1], self.given["size"])
-
-    def judge_remove(self, path):
-        self.add("IsDir", self.needs(path, follow=False) == "D")
+    def is_too_long(self, number):
+        """Whether a file has no room for the size that it is given."""
+        return "size" in self.given and self.overfills(number, self.given["size"])
 
     def judge_rmdir(self, path):
         kind = self.needs(path, follow=False)
@@ -119,20 +101,14 @@ class Ask:
         self.add("Root", self.place == ())
 
     def judge_new(self, path):
-        self.place = self.walk(path)
-        self.add("Exists", self.kind(self.place) is not None)
-
-    def judge_mkdir(self, path, given):
-        self.judge_new(path)
+        self.add("Exists", self.kind(self.leads(path)) is not None)
 
     def judge_symlink(self, target, path):
         self.path_is_bad = not target or not is_good_path(target)
         self.judge_new(path)
 
-    def overfills_mkdir(self):
+    def has_no_place(self):
         return len(self.place) > DEEPEST or len(self.tree.nodes) > self.tree.entry_limit
-
-    overfills_symlink = overfills_hardlink = overfills_mkdir
 
     def judge_two(self, old, new):
         self.old, self.place = self.walk(old), self.walk(new)
@@ -146,7 +122,7 @@ class Ask:
         self.add("Root", self.old == ())
         self.add("Inside", self.is_inside)
 
-    def overfills_rename(self):
+    def is_too_deep(self):
         return self.tree.depth_if_moved(self.old, self.place) > DEEPEST
 
     def judge_posix_rename(self, old, new):
@@ -162,9 +138,6 @@ class Ask:
             self.add("IsDir", kind in ("F", "L") and other == "D")
             self.add("NotEmpty", kind == other == "D" and self.tree.has_entries(self.place))
 
-    def overfills_posix_rename(self):
-        return not self.is_one and self.overfills_rename()
-
     def judge_hardlink(self, old, new):
         self.judge_two(old, new)
         self.add("Exists", self.kind(self.place) is not None)
@@ -179,16 +152,10 @@ class Ask:
         self.add("WrongKind", self.it is not None and kind not in (None, self.it.kind))
         return self.it if self.it is not None and kind in (None, self.it.kind) else None
 
-    def judge_close(self, handle):
-        self.opened(handle)
-
-    def judge_read(self, handle, offset, length):
+    def judge_use(self, handle, flag):
+        """A handle that has to be of a file that was opened for this."""
         it = self.opened(handle, "F")
-        self.add("NotOpenFor", it is not None and "READ" not in it.flags)
-
-    def judge_write(self, handle, offset, bytes):
-        it = self.opened(handle, "F")
-        self.add("NotOpenFor", it is not None and "WRITE" not in it.flags)
+        self.add("NotOpenFor", it is not None and flag not in it.flags)
 
     def overfills_write(self):
         _, offset, bytes = self.values
@@ -198,28 +165,10 @@ class Ask:
     def start_of_write(self, offset):
         return len(self.tree.files[self.it.file].bytes) if "APPEND" in self.it.flags else offset
 
-    def judge_fstat(self, handle):
-        self.opened(handle, "F")
-
     def judge_fsetstat(self, handle, given):
         self.given = given
         it = self.opened(handle, "F")
         self.add("NotOpenFor", it is not None and "size" in given and "WRITE" not in it.flags)
-
-    def overfills_fsetstat(self):
-        return "size" in self.given and self.overfills(self.it.file, self.given["size"])
-
-    def judge_readdir(self, handle):
-        self.opened(handle, "L")
-
-    def judge_fsync(self, handle):
-        self.opened(handle, "F")
-
-    def judge_limits(self):
-        pass
-
-    def judge_extended(self, name, rest):
-        self.further.add("Unknown")
 
     # What is answered where no cause holds.
 
@@ -300,6 +249,36 @@ class Ask:
             self.tree.set_file(value, self.given)
         else:
             self.tree.nodes[self.place] = kind, with_given(value, self.given)
+
+
+# By name: what is looked at before a request is done, and whether it would break a limit.
+JUDGES = {
+    "OPEN": Ask.judge_open, "SETSTAT": Ask.judge_setstat, "RMDIR": Ask.judge_rmdir, "SYMLINK": Ask.judge_symlink,
+    "RENAME": Ask.judge_rename, "POSIX-RENAME": Ask.judge_posix_rename, "HARDLINK": Ask.judge_hardlink,
+    "FSETSTAT": Ask.judge_fsetstat, "CLOSE": Ask.opened,
+    "OPENDIR": lambda ask, path: ask.add("NotDir", ask.needs(path, follow=True) not in (None, "D")),
+    "LSTAT": lambda ask, path: ask.needs(path, follow=False),
+    "STAT": lambda ask, path: ask.needs(path, follow=True),
+    "REALPATH": lambda ask, path: ask.leads(path, follow=True),
+    "READLINK": lambda ask, path: ask.add("NotLink", ask.needs(path, follow=False) in ("D", "F")),
+    "REMOVE": lambda ask, path: ask.add("IsDir", ask.needs(path, follow=False) == "D"),
+    "MKDIR": lambda ask, path, _: ask.judge_new(path),
+    "READ": lambda ask, handle, *_: ask.judge_use(handle, "READ"),
+    "WRITE": lambda ask, handle, *_: ask.judge_use(handle, "WRITE"),
+    "FSTAT": lambda ask, handle: ask.opened(handle, "F"),
+    "FSYNC": lambda ask, handle: ask.opened(handle, "F"),
+    "READDIR": lambda ask, handle: ask.opened(handle, "L"),
+    "LIMITS": lambda _: None,
+    "EXTENDED": lambda ask, *_: ask.add("Unknown", True),
+}
+OVERFILLS = {
+    "OPEN": lambda ask: ask.has_all_handles() or ask.makes and ask.has_no_place(),
+    "OPENDIR": Ask.has_all_handles,
+    "MKDIR": Ask.has_no_place, "SYMLINK": Ask.has_no_place, "HARDLINK": Ask.has_no_place,
+    "RENAME": Ask.is_too_deep, "POSIX-RENAME": lambda ask: not ask.is_one and ask.is_too_deep(),
+    "SETSTAT": lambda ask: ask.is_too_long(ask.tree.nodes[ask.place][1]),
+    "FSETSTAT": lambda ask: ask.is_too_long(ask.it.file), "WRITE": Ask.overfills_write,
+}
 
 
 class Open:

@@ -2,6 +2,7 @@
 import re
 import struct
 import sys
+import textwrap
 
 from sftp3.packets import CLIENT, FLAGS, LAYOUTS, SIDES
 
@@ -23,20 +24,17 @@ class Generator:
 
 def print_comment(text):
     """Prints a comment, in lines of at most 120 characters."""
-    line = "#"
-    for word in text.split():
-        if len(line) + 1 + len(word) > 120:
-            print(line)
-            line = "#"
-        line += " " + word
-    print(line)
+    print(textwrap.fill(text, 120, initial_indent="# ", subsequent_indent="# ", break_long_words=False,
+                        break_on_hyphens=False))
 
 
 def print_lines(keyword, lines):
-    """Prints a block."""
-    print(keyword)
-    for line in lines:
-        print(line)
+    print("\n".join([keyword, *lines]))
+
+
+def print_packets(*packets):
+    for packet in packets:
+        print("\n".join(lines_of(text_of(packet))))
 
 
 def words_of(usage):
@@ -103,18 +101,9 @@ def text_of_flags(flags):
 
 
 def words_of_attributes(attributes):
-    words = []
-    if "size" in attributes:
-        words.append(f"size={attributes['size']}")
-    if "owner" in attributes:
-        words.append("owner=%d,%d" % attributes["owner"])
-    if "permissions" in attributes:
-        words.append(f"permissions=0{attributes['permissions']:o}")
-    if "times" in attributes:
-        words.append("times=%d,%d" % attributes["times"])
-    if "extended" in attributes:
-        words.append(f"extended={text_of_pairs(attributes['extended'], ',')}")
-    return words
+    texts = {"size": str, "owner": "%d,%d".__mod__, "permissions": "0%o".__mod__, "times": "%d,%d".__mod__,
+             "extended": lambda pairs: text_of_pairs(pairs, ",")}
+    return [f"{name}={text(attributes[name])}" for name, text in texts.items() if name in attributes]
 
 
 def words_of_status(code, message, language):
@@ -126,22 +115,19 @@ def words_of_names(items):
     return ["; ".join(texts)] if texts else []
 
 
+# How the fields of some kinds are shown.
+FIELDS = {"flags": lambda value: [text_of_flags(value)], "handle": lambda value: [text_of_handle(value)],
+          "attributes": words_of_attributes, "names": words_of_names,
+          "pairs": lambda value: [text_of_pairs(value, " ")] if value else []}
+
+
 def words_of_field(field, value):
-    if field == "flags":
-        return [text_of_flags(value)]
-    if field == "handle":
-        return [text_of_handle(value)]
-    if field == "attributes":
-        return words_of_attributes(value)
-    if field == "names":
-        return words_of_names(value)
-    if field == "pairs":
-        return [text_of_pairs(value, " ")] if value else []
+    if field in FIELDS:
+        return FIELDS[field](value)
     return [text_of_bytes(value) if isinstance(value, bytes) else str(value)]
 
 
 def text_of(packet):
-    """The line of a packet."""
     side = "C" if packet.name in SIDES[CLIENT] else "S"
     words = [side, *([] if packet.number is None else [str(packet.number)]), packet.name]
     if packet.name == "STATUS":

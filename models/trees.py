@@ -5,7 +5,7 @@ A place is the tuple of the names that lead to it. What is at a place is ("D", o
 """
 from sftp3 import trees as tree_files
 from sftp3.trees import USUAL, is_good_path, place_of, text_of
-from texts import text_of_bytes
+from texts import lines_of, text_of_bytes
 
 LINKS = 40
 
@@ -150,14 +150,15 @@ class Tree:
         return (*self.limits[:4], self.all_limit) if tree_files.are_far(self.limits) else self.limits
 
     def lines(self):
-        """The lines of a case that stand for the tree file."""
+        """The lines of a block that stand for the tree file."""
         lines = []
         if self.home or self.owner != (0, 0) or self.limits != USUAL:
             words = [f"home {text_of_bytes(text_of(self.home))} uid {self.owner[0]} gid {self.owner[1]}"]
             lines.append(" ".join([*words, "limits", *map(str, self.told_limits())] if self.limits != USUAL else words))
         if self.nodes[()][1] != (0, 0, 0o755) or lines:
             lines.append(text_of_entry((), "D", self.nodes[()][1], None))
-        return lines + [text_of_entry(*entry) for entry in self.entries()]
+        lines += [text_of_entry(*entry) for entry in self.entries()]
+        return [it for line in lines for it in lines_of(line)]
 
 
 def text_of_entry(place, kind, owner, value):

@@ -173,38 +173,29 @@ class Files:
         listed = [(name, *it) for name in crates.lines for it in crates.files(name, ("specs", "proofs"))]
         # The files of definitions and of proofs, by the paths that lead to them.
         self.modules = {".".join((name, *Path(path).with_suffix("").parts)): file for name, file, path in listed}
-        self.read_parts: dict[Path, Parts] = {}
-        self.read_blocks: dict[Path, list[Block]] = {}
-        self.read_names: dict[Path, dict[str, list[Block]]] = {}
-        self.read_links: dict[Block, Links] = {}
-        self.read_contracts: dict[Path, list[Contract]] = {}
+        # What is made of a file or a block is made once.
+        for method in (self.parts, self.contracts, self.blocks, self.defined, self.links):
+            setattr(self, method.__name__, cache(method))
 
     def parts(self, file: Path) -> Parts:
-        if file not in self.read_parts:
-            self.read_parts[file] = parts_of(file)
-        return self.read_parts[file]
+        return parts_of(file)
 
     def contracts(self, file: Path) -> list[Contract]:
-        if file not in self.read_contracts:
-            self.read_contracts[file] = contracts_in(file.read_text())
-        return self.read_contracts[file]
+        return contracts_in(file.read_text())
 
     def blocks(self, file: Path) -> list[Block]:
         """Returns the blocks of a file. The names of the files in its folder are in none."""
-        if file not in self.read_blocks:
-            text = "\n".join(it for it in self.parts(file).rest if not re.fullmatch(r"(pub )?mod \S+", it))
-            texts = [it.strip("\n") for it in re.split(r"\n\s*\n(?=\S)", f"\n\n{text}")]
-            self.read_blocks[file] = [Block(file, it) for it in texts if it]
-        return self.read_blocks[file]
+        text = "\n".join(it for it in self.parts(file).rest if not re.fullmatch(r"(pub )?mod \S+", it))
+        texts = [it.strip("\n") for it in re.split(r"\n\s*\n(?=\S)", f"\n\n{text}")]
+        return [Block(file, it) for it in texts if it]
 
     def defined(self, file: Path) -> dict[str, list[Block]]:
         """Returns the blocks of a file by the names that they define."""
-        if file not in self.read_names:
-            names = self.read_names.setdefault(file, {})
-            for block in self.blocks(file):
-                for name in names_in(block.text):
-                    names.setdefault(name, []).append(block)
-        return self.read_names[file]
+        names: dict[str, list[Block]] = {}
+        for block in self.blocks(file):
+            for name in names_in(block.text):
+                names.setdefault(name, []).append(block)
+        return names
 
     def file_of(self, path: str) -> Path | None:
         """Returns the file of definitions or proofs in which a path of the repository's crates ends, or None."""
@@ -249,15 +240,13 @@ class Files:
 
     def links(self, block: Block) -> Links:
         """Returns what the names in a block lead to, and its text without the names of files before those."""
-        if block not in self.read_links:
-            imports = self.parts(block.file).imports
-            text, paths = self.behind_modules(block.text, imports)
-            paths += [it for it in imports if is_used(it[0], text) and not is_bound(it[0], text)]
-            found = [(path.rpartition(".")[2], self.ends_of(path)) for _, path in paths]
-            found += [(name, its) for name, its in self.defined(block.file).items()
-                      if block not in its and is_used(name, text) and not is_bound(name, text)]
-            self.read_links[block] = Links(text, found)
-        return self.read_links[block]
+        imports = self.parts(block.file).imports
+        text, paths = self.behind_modules(block.text, imports)
+        paths += [it for it in imports if is_used(it[0], text) and not is_bound(it[0], text)]
+        found = [(path.rpartition(".")[2], self.ends_of(path)) for _, path in paths]
+        found += [(name, its) for name, its in self.defined(block.file).items()
+                  if block not in its and is_used(name, text) and not is_bound(name, text)]
+        return Links(text, found)
 
     def reached(self, blocks: Iterable[Block]) -> set[Block]:
         """Returns these blocks, and all that the names in them lead to, and so on."""

@@ -125,7 +125,3 @@ class Callers(unittest.TestCase):
                                      check=False)
                 self.assertEqual(("/.ci/build\n" in ran.stderr, ran.stderr.endswith("/out/sftpv3\n")),
                                  (is_changed, True), ran.stderr)
-
-
-if __name__ == "__main__":
-    unittest.main()

@@ -132,7 +132,3 @@ class Wants(unittest.TestCase):
                               (Came(2, b"", fault.errors + b"x\n"), "tree: entry 0: Short"),
                               (Came(1, b"", fault.errors), "tree: entry 0: Short")):
             self.assertFalse(tables.is_said(came, verdict))
-
-
-if __name__ == "__main__":
-    unittest.main()

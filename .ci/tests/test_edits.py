@@ -116,9 +116,7 @@ class Applied(unittest.TestCase):
 
     def setUp(self):
         self.crates = Crates()
-        room = tempfile.TemporaryDirectory()
-        self.addCleanup(room.cleanup)
-        self.folder = Path(room.name)
+        self.folder = Path(self.enterContext(tempfile.TemporaryDirectory()))
         self.crates.folders["sftp_json"] = self.folder
         (self.folder / "src").mkdir()
         (self.folder / "src/lib.rt").write_text(SOURCE)
@@ -245,7 +243,3 @@ class Hashes(unittest.TestCase):
         self.assertNotEqual(self.hash_with(**texts | other), before)
         moved = {it.replace("Answers", "Invariants"): text for it, text in texts.items()}
         self.assertNotEqual(self.hash_with(**moved), before)
-
-
-if __name__ == "__main__":
-    unittest.main()

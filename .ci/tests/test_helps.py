@@ -148,32 +148,36 @@ def servers() -> list[Path]:
     return [TOP / "clients/servers" / it for it in ("any", "gesftpserver", "openssh")]
 
 
+def commands() -> list[Path]:
+    return [TOP / "clients" / it for it in COMMANDS]
+
+
+def run(words: list, **options) -> subprocess.CompletedProcess:
+    """Runs a script. It and what it starts get no program, so nothing is proved."""
+    return subprocess.run(words, **{"cwd": TOP, "stdin": subprocess.DEVNULL, "stdout": subprocess.DEVNULL,
+                                    "stderr": subprocess.PIPE, "timeout": LONG,
+                                    "env": {**os.environ, "SFTPV3": "/bin/false"}, **options})
+
+
+def run_code(code: str, *words: object) -> tuple[int, str]:
+    """The status of Python that runs this code with these words, and what it says to standard error."""
+    ran = run([sys.executable, "-B", "-c", code, *map(str, words)])
+    return ran.returncode, ran.stderr.decode()
+
+
 def to_full(script: Path) -> str:
     """Returns what is wrong with the answer of a script whose standard output is a full disk."""
     with open("/dev/full", "wb") as full:
-        ran = subprocess.run([script, "--help"], stdin=subprocess.DEVNULL, stdout=full, stderr=subprocess.PIPE,
-                             env={**os.environ, "SFTPV3": "/bin/false"}, timeout=LONG)
+        ran = run([script, "--help"], stdout=full)
     said = ran.stderr.decode()
     is_right = re.fullmatch("[a-z0-9-]+: .*(standard output|stdout): No space left on device\n", said)
     return "" if is_right and ran.returncode == 3 else f"status {ran.returncode}, {said[-200:]!r}"
 
 
-def struck(script: Path, number: int) -> tuple[int, str]:
-    """The status of a script that is interrupted at its Nth import, and what it says to standard error."""
-    ran = subprocess.run([sys.executable, "-B", "-c", STRIKES, str(number), script],
-                         stdin=subprocess.DEVNULL, stdout=subprocess.DEVNULL, stderr=subprocess.PIPE, timeout=LONG,
-                         env={**os.environ, "SFTPV3": "/bin/false"})
-    return ran.returncode, ran.stderr.decode()
-
-
 def run_by(code: str, script: Path) -> tuple[int, str]:
     """The status of a script that this code runs, and what it says to standard error."""
     with tempfile.TemporaryDirectory() as room:
-        words = [it.replace("ROOM", room) for it in ENDING[script.name]]
-        ran = subprocess.run([sys.executable, "-B", "-c", code.format(script=str(script)), *words],
-                             stdin=subprocess.DEVNULL, stdout=subprocess.DEVNULL, stderr=subprocess.PIPE, timeout=LONG,
-                             cwd=TOP, env={**os.environ, "SFTPV3": "/bin/false"})
-    return ran.returncode, ran.stderr.decode()
+        return run_code(code.format(script=str(script)), *(it.replace("ROOM", room) for it in ENDING[script.name]))
 
 
 def struck_at_end(script: Path) -> str:
@@ -188,12 +192,10 @@ def struck_at_end(script: Path) -> str:
 def without_module(script: Path) -> str:
     """Returns what is wrong with a script whose modules cannot be read: that is no verdict."""
     for kind in ("ImportError", "MemoryError"):
-        ran = subprocess.run([sys.executable, "-B", "-c", LACKS, script, kind], stdin=subprocess.DEVNULL,
-                             stdout=subprocess.DEVNULL, stderr=subprocess.PIPE, timeout=LONG)
-        said = ran.stderr.decode()
+        status, said = run_code(LACKS, script, kind)
         is_said = said == f"{script.name}: out of memory\n" if kind == "MemoryError" else "\nImportError\n" in said
-        if ran.returncode != 3 or not is_said:
-            return f"{kind}: status {ran.returncode}, {said[-300:]!r}"
+        if status != 3 or not is_said:
+            return f"{kind}: status {status}, {said[-300:]!r}"
     return ""
 
 
@@ -207,26 +209,26 @@ def wrong_to_full(script: Path) -> str:
     """Returns what is wrong with the status of a script that got wrong words, and whose standard error is a full
     disk."""
     with open("/dev/full", "wb") as full:
-        ran = subprocess.run([script, "--wrong"], stdin=subprocess.DEVNULL, stdout=subprocess.PIPE, stderr=full,
-                             env={**os.environ, "SFTPV3": "/bin/false"}, timeout=LONG)
+        ran = run([script, "--wrong"], stdout=subprocess.PIPE, stderr=full)
     return "" if ran.returncode == 2 else f"status {ran.returncode}, {ran.stdout[-200:]!r}"
 
 
 def interrupted(script: Path) -> str:
     """Returns what is wrong with a script that is interrupted at its first, its last and an import between them."""
-    status, said = struck(script, 0)
+    status, said = run_code(STRIKES, 0, script)
     if not said.isdecimal() or int(said) < 2:
         return f"it imports {said!r} behind recording.standard, status {status}"
     for number in {1, (int(said) + 1) // 2, int(said)}:
-        status, found = struck(script, number)
+        status, found = run_code(STRIKES, number, script)
         if status not in (-signal.SIGINT, 128 + signal.SIGINT) or found:
             return f"import {number} of {said}: status {status}, {found[-200:]!r}"
     return ""
 
 
-def wrong(script: Path, word: str, **settings: str) -> str:
-    """Returns what is wrong with the answer of a script. What it starts gets no program, so nothing is proved."""
-    started = subprocess.Popen([script, word], stdin=subprocess.DEVNULL, stdout=subprocess.PIPE,
+def wrong(script: Path, **settings: str) -> str:
+    """Returns what is wrong with the answer of a script to `--help`. What it starts gets no program, so nothing is
+    proved."""
+    started = subprocess.Popen([script, "--help"], stdin=subprocess.DEVNULL, stdout=subprocess.PIPE,
                                stderr=subprocess.PIPE, env={**os.environ, "SFTPV3": "/bin/false", **settings},
                                start_new_session=True)
     try:
@@ -243,71 +245,51 @@ def wrong(script: Path, word: str, **settings: str) -> str:
 class Helps(unittest.TestCase):
     maxDiff = None
 
-    def test_each_script_says_what_it_is_for(self):
-        found = scripts()
-        self.assertGreater(len(found), 30)
+    def no_mistakes(self, judge, found):
+        """Each of these scripts is right, as this function judges it."""
         with futures.ThreadPoolExecutor(8) as pool:
-            told = dict(zip(found, pool.map(lambda it: wrong(it, "--help"), found)))
+            told = dict(zip(found, pool.map(judge, found)))
         self.assertEqual({str(it.relative_to(TOP)): why for it, why in told.items() if why}, {})
+
+    def test_each_script_says_what_it_is_for(self):
+        self.assertGreater(len(scripts()), 30)
+        self.no_mistakes(wrong, scripts())
 
     def test_settings_of_python_change_no_command(self):
         with tempfile.TemporaryDirectory() as room:
             for name in ("argparse", "os", "recording", "subprocess", "tempfile"):
                 (Path(room) / f"{name}.py").write_text(SPRUNG)
-            found = {it: wrong(it, "--help", PYTHONOPTIMIZE="2", PYTHONPATH=room)
-                     for it in [*(TOP / "clients" / it for it in COMMANDS), *servers()]}
-            texts = subprocess.run([TOP / "packaging/commands", room, *COMMANDS], stdin=subprocess.DEVNULL,
-                                   env={**os.environ, "PYTHONOPTIMIZE": "2", "PYTHONPATH": room},
-                                   stdout=subprocess.PIPE, stderr=subprocess.STDOUT, timeout=LONG)
-        self.assertEqual({str(it.relative_to(TOP)): why for it, why in found.items() if why}, {})
+            settings = {"PYTHONOPTIMIZE": "2", "PYTHONPATH": room}
+            self.no_mistakes(lambda it: wrong(it, **settings), commands() + servers())
+            texts = run([TOP / "packaging/commands", room, *COMMANDS], env={**os.environ, **settings},
+                        stdout=subprocess.PIPE, stderr=subprocess.STDOUT)
         self.assertEqual((texts.returncode, texts.stdout), (0, b""))
 
     def test_a_module_that_cannot_be_read_is_no_verdict(self):
-        found = [TOP / "clients" / it for it in COMMANDS] + servers()
-        with futures.ThreadPoolExecutor(8) as pool:
-            told = dict(zip(found, pool.map(without_module, found)))
-        self.assertEqual({str(it.relative_to(TOP)): why for it, why in told.items() if why}, {})
+        self.no_mistakes(without_module, commands() + servers())
 
     def test_each_script_says_that_it_cannot_print(self):
-        with futures.ThreadPoolExecutor(8) as pool:
-            found = [*scripts(), *servers()]
-            told = dict(zip(found, pool.map(to_full, found)))
-        self.assertEqual({str(it.relative_to(TOP)): why for it, why in told.items() if why}, {})
+        self.no_mistakes(to_full, scripts() + servers())
 
     def test_an_interrupt_ends_each_command_while_it_imports(self):
-        found = [TOP / "clients" / it for it in COMMANDS] + servers()
-        with futures.ThreadPoolExecutor(8) as pool:
-            told = dict(zip(found, pool.map(interrupted, found)))
-        self.assertEqual({str(it.relative_to(TOP)): why for it, why in told.items() if why}, {})
+        self.no_mistakes(interrupted, commands() + servers())
 
     def test_an_interrupt_ends_other_scripts_without_a_traceback(self):
         for code in (QUIET, PAGES):
-            ran = subprocess.run([sys.executable, "-B", "-c", code], cwd=TOP, stdin=subprocess.DEVNULL, timeout=LONG,
-                                 stdout=subprocess.DEVNULL, stderr=subprocess.PIPE)
-            self.assertEqual((ran.returncode in (-signal.SIGINT, 128 + signal.SIGINT), ran.stderr), (True, b""), code)
+            status, said = run_code(code)
+            self.assertEqual((status in (-signal.SIGINT, 128 + signal.SIGINT), said), (True, ""), code)
 
     def test_the_status_is_the_same_where_standard_error_is_full(self):
-        found = {}
         for name, (wanted, words) in FAILING.items():
-            with tempfile.TemporaryDirectory() as room, open("/dev/full", "wb") as full:
-                ran = subprocess.run([TOP / "clients" / name, *(it.replace("ROOM", room) for it in words)], cwd=TOP,
-                                     env={**os.environ, "SFTPV3": "/bin/false"}, stdin=subprocess.DEVNULL,
-                                     stdout=subprocess.DEVNULL, stderr=full, timeout=LONG)
-            found[name] = ran.returncode, wanted
-        self.assertEqual({it: pair for it, pair in found.items() if pair[0] != pair[1]}, {})
+            with tempfile.TemporaryDirectory() as room, open("/dev/full", "wb") as full, self.subTest(name):
+                ran = run([TOP / "clients" / name, *(it.replace("ROOM", room) for it in words)], stderr=full)
+                self.assertEqual(ran.returncode, wanted)
 
     def test_a_signal_at_the_end_does_no_harm(self):
-        told = {it: struck_at_end(TOP / "clients" / it) for it in ENDING}
-        self.assertEqual({it: why for it, why in told.items() if why}, {})
+        self.no_mistakes(struck_at_end, [TOP / "clients" / it for it in ENDING])
 
     def test_what_no_script_foresees_is_no_verdict(self):
-        told = {it: failed(TOP / "clients" / it) for it in ENDING}
-        self.assertEqual({it: why for it, why in told.items() if why}, {})
+        self.no_mistakes(failed, [TOP / "clients" / it for it in ENDING])
 
     def test_wrong_usage_has_its_status_where_standard_error_is_full(self):
-        told = {it: wrong_to_full(TOP / "clients" / it) for it in COMMANDS}
-        self.assertEqual({it: why for it, why in told.items() if why}, {})
-
-
-if __name__ == "__main__":
-    unittest.main()
+        self.no_mistakes(wrong_to_full, commands())

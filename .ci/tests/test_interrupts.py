@@ -7,6 +7,7 @@ import sys
 import tempfile
 import time
 import unittest
+from contextlib import suppress
 from pathlib import Path
 
 sys.dont_write_bytecode = True
@@ -48,11 +49,9 @@ def running(room: Path) -> list[int]:
     """Returns the processes that stand for `rt` and still run, which are ended."""
     found = []
     for number in (room / "running").read_text().split() if (room / "running").exists() else []:
-        try:
+        with suppress(ProcessLookupError):
             os.kill(int(number), signal.SIGKILL)
             found.append(int(number))
-        except ProcessLookupError:
-            pass
     return found
 
 
@@ -71,7 +70,3 @@ class Interrupts(unittest.TestCase):
 
     def test_build(self):
         self.try_each("build")
-
-
-if __name__ == "__main__":
-    unittest.main()

@@ -58,9 +58,7 @@ CASES = b"# Made.\n\ncase one\n  C 1 CLOSE\n\ncase two\n"
 
 class Sources(unittest.TestCase):
     def setUp(self):
-        room = tempfile.TemporaryDirectory()
-        self.addCleanup(room.cleanup)
-        self.file = Path(room.name, "counts.rt")
+        self.file = Path(self.enterContext(tempfile.TemporaryDirectory()), "counts.rt")
         self.file.write_text(SOURCE)
 
     def test_head_is_the_first_sentence(self):
@@ -163,7 +161,3 @@ class Counts(unittest.TestCase):
         lines = ["-- ==== A part.", "", "-- a number", "abbrev pub one : N", "-- of one", "one = 1", "", "two = 2"]
         block = believing.Block(None, "abbrev pub one : N\none = 1")
         self.assertEqual([*believing.lines_of(block, lines)], [2, 3, 4, 5])
-
-
-if __name__ == "__main__":
-    unittest.main()

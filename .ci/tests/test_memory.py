@@ -43,7 +43,3 @@ class Wrong(unittest.TestCase):
             for came in range(4):
                 told = memory.amiss(self.trial(name), (came, b"", b"", {}))
                 self.assertEqual(told is None, came == status, (name, came))
-
-
-if __name__ == "__main__":
-    unittest.main()

@@ -21,9 +21,7 @@ SOURCE = 'const USAGE: &str = "0.1.0";\npub const VERSION: &str = "0.2.0";\n'
 
 class Scripts(unittest.TestCase):
     def setUp(self):
-        room = tempfile.TemporaryDirectory()
-        self.addCleanup(room.cleanup)
-        self.room = Path(room.name)
+        self.room = Path(self.enterContext(tempfile.TemporaryDirectory()))
 
     def script(self, text: str) -> list[str]:
         file = self.room / "script"
@@ -106,7 +104,3 @@ class Sections(unittest.TestCase):
         self.assertEqual(mdoc.sections(text), [
             ".Sh NOTES", "It runs.", "It ends.", ".Pp", "More.", ".Bl -bullet", ".It", "one word", ".It",
             "\\&\\(aqtwo\\(aq", ".El", ".Pp", "Behind.", ".Sh CAVEATS", ".Bl -bullet", ".It", "three", ".El"])
-
-
-if __name__ == "__main__":
-    unittest.main()

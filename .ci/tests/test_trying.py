@@ -55,9 +55,7 @@ else:
 
 class Trying(unittest.TestCase):
     def setUp(self):
-        room = tempfile.TemporaryDirectory()
-        self.addCleanup(room.cleanup)
-        self.room = Path(room.name)
+        self.room = Path(self.enterContext(tempfile.TemporaryDirectory()))
         self.crates, self.folder, self.calls = Crates(), self.room / "crate", self.room / "calls"
         self.crates.folders["sftp_json"] = self.folder
         (self.folder / "src").mkdir(parents=True)
@@ -68,9 +66,8 @@ class Trying(unittest.TestCase):
         rt.write_text(RT.format(python=sys.executable, calls=self.calls))
         rt.chmod(0o755)
         path = {"PATH": f"{rt.parent}:{os.environ['PATH']}", "RT_COPIES": "1", "SECONDS_OF_RT": "0"}
-        for patch in mock.patch.dict(os.environ, path), mock.patch.object(trying, "TOP", self.room):
-            patch.start()
-            self.addCleanup(patch.stop)
+        self.enterContext(mock.patch.dict(os.environ, path))
+        self.enterContext(mock.patch.object(trying, "TOP", self.room))
         os.environ.pop("RT_JOBS", None)
 
     def tried(self, *names: str, end: float | None = None) -> tuple[int, list[str]]:
@@ -125,7 +122,3 @@ class Trying(unittest.TestCase):
         self.assertEqual(self.tried("together", end=begun)[0], 3)
         self.assertLess(time.monotonic() - begun, 20)
         self.assertTrue(self.is_due())
-
-
-if __name__ == "__main__":
-    unittest.main()

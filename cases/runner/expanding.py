@@ -81,7 +81,6 @@ def in_full(line: str) -> str:
 
 
 def add_lines(group: Group, turn: int, is_literal: bool, done: list[str]) -> None:
-    """Adds the lines of a group in one of its turns."""
     indent = FOUR if group.repeats else "  "
     for line in group.lines:
         continues = not is_literal and line.startswith(EIGHT)

@@ -54,22 +54,17 @@ def remove_file(state: State, block: Block, text: list[str]) -> None:
 
 
 def compare_file(state: State, block: Block, text: list[str]) -> None:
-    state.settle()
     state.expect_file(name_of(block), MAKERS[block.keyword](text))
 
 
 def compare_files(state: State, block: Block, text: list[str]) -> None:
-    state.settle()
     name, _, other = block.words.partition(" ")
     state.expect_file(name, Path(other).read_bytes())
 
 
 def expect_none(state: State, block: Block, text: list[str]) -> None:
-    state.settle()
     state.expect_there(name_of(block), False)
 
-
-# ==== What the next run is given.
 
 def set_input(state: State, block: Block, text: list[str]) -> None:
     state.asked.input = lines.bytes_of(text)
@@ -100,13 +95,11 @@ def break_stream(state: State, block: Block, text: list[str]) -> None:
 # ==== Runs.
 
 def run(state: State, block: Block, text: list[str]) -> None:
-    state.begin_run()
     state.ask(block.words)
 
 
 def run_full(state: State, block: Block, text: list[str]) -> None:
     """Runs the program with room for each number of bytes below the first word."""
-    state.begin_run()
     most, _, words = block.words.partition(" ")
     for room in range(number_in(most)):
         state.asked.room[OUTPUT] = room
@@ -117,7 +110,6 @@ def run_full(state: State, block: Block, text: list[str]) -> None:
 
 
 def audit(state: State, block: Block, text: list[str]) -> None:
-    state.begin_run()
     state.wanted.output = text_of(text)
     state.wanted.status = 0 if state.wanted.output.startswith(b"accepted") else 1
     came = state.ask(f"{AUDIT} {block.words}")
@@ -125,24 +117,8 @@ def audit(state: State, block: Block, text: list[str]) -> None:
 
 
 def serve_new(state: State, block: Block, text: list[str]) -> None:
-    state.begin_run()
     state.served = text
     serve(state, block.words)
-
-
-def serve_again(state: State, block: Block, text: list[str]) -> None:
-    state.begin_run()
-    serve(state, block.words)
-
-
-def table(state: State, block: Block, text: list[str]) -> None:
-    state.begin_run()
-    play_table(state, block.keyword, text)
-
-
-def table_of_changes(state: State, block: Block, text: list[str]) -> None:
-    state.begin_run()
-    changes(state, block.words, text)
 
 
 # ==== What is wanted of the last run.
@@ -151,20 +127,13 @@ def text_of(text: list[str]) -> bytes:
     return "".join(f"{it}\n" for it in text).encode()
 
 
-def need_run(state: State) -> None:
-    if state.pending is None:
-        raise Stop("a run before")
-
-
 def want_status(state: State, block: Block, text: list[str]) -> None:
-    need_run(state)
     if not re.fullmatch("[0-9]{1,3}", block.words):
         raise Stop("a status")
     state.wanted.status = int(block.words)
 
 
 def want_packets(state: State, block: Block, text: list[str]) -> None:
-    need_run(state)
     state.wanted.output_form, state.wanted.output = PACKETS, lines.sides(text)[1]
 
 
@@ -175,22 +144,26 @@ def form_of(words: str, front: str) -> str:
 
 
 def want_output(state: State, block: Block, text: list[str]) -> None:
-    need_run(state)
     state.wanted.output_form, state.wanted.output = form_of(block.words, "begins"), text_of(text)
 
 
 def want_errors(state: State, block: Block, text: list[str]) -> None:
-    need_run(state)
     state.wanted.errors_form, state.wanted.errors = form_of(block.words, "begin"), text_of(text)
 
 
-STEPS: dict[str, Callable[[State, Block, list[str]], None]] = {
+# By keyword: what a block does, once the run before is judged, or is there.
+STEPS: dict[str, Callable[[State, Block, list[str]], object]] = {
     "tree": make_file, "session": make_file, "records": make_file, "bytes": make_file, "absent": remove_file,
     "end": compare_file, "recorded": compare_file, "is": compare_file, "same": compare_files, "no": expect_none,
     "input": set_input, "pieces": set_size, "before": set_before, "broken": break_stream,
-    "run": run, "full": run_full, "audit": audit, "serve": serve_new, "again": serve_again,
-    "replies": table, "codes": table, "answers": table, "changes": table_of_changes,
+    "run": run, "full": run_full, "audit": audit, "serve": serve_new,
+    "again": lambda state, block, _: serve(state, block.words),
+    **dict.fromkeys(("replies", "codes", "answers"), lambda state, block, text: play_table(state, block.keyword, text)),
+    "changes": lambda state, block, text: changes(state, block.words, text),
     "status": want_status, "packets": want_packets, "output": want_output, "errors": want_errors}
+COMPARING = {"end", "recorded", "is", "same", "no"}
+RUNNING = {"run", "full", "audit", "serve", "again", "replies", "codes", "answers", "changes"}
+WANTING = {"status", "packets", "output", "errors"}
 
 
 def take_step(state: State, block: Block) -> None:
@@ -199,4 +172,10 @@ def take_step(state: State, block: Block) -> None:
     if block.keyword not in STEPS:
         raise Stop("the keyword of a block")
     text = expand(block.lines, block.keyword in STREAMS)
+    if block.keyword in COMPARING:
+        state.settle()
+    elif block.keyword in RUNNING:
+        state.begin_run()
+    elif block.keyword in WANTING and state.pending is None:
+        raise Stop("a run before")
     STEPS[block.keyword](state, block, text)

@@ -163,7 +163,6 @@ LINES: dict[str, Callable[[State, str], None]] = {
 
 
 def play_table(state: State, keyword: str, table: list[str]) -> None:
-    """Plays each line of a table of requests."""
     if not table:
         raise Stop("lines of a table")
     if keyword == "codes":

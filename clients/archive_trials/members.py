@@ -21,7 +21,6 @@ def sftpv3(words, archive=b""):
 
 @contextmanager
 def room():
-    """A folder for a trial."""
     with tempfile.TemporaryDirectory() as name:
         yield Path(name)
 

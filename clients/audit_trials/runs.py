@@ -62,7 +62,6 @@ class Room:
 
     @functools.cached_property
     def large(self):
-        """The file of a large tree."""
         name = self.folder / "large.tree"
         entries = [trees.Entry(b"/%02d" % it, trees.FILE, bytes([it]) * FILE) for it in range(COUNT)]
         trees.write(trees.Tree(entries), name)
@@ -71,6 +70,5 @@ class Room:
 
 @contextmanager
 def room():
-    """A room for a trial."""
     with tempfile.TemporaryDirectory() as folder:
         yield Room(Path(folder))

@@ -54,7 +54,6 @@ class Server(Client):
         return self.ask(name, path).fields[0].get("times")
 
     def open(self, path, flags, given=None):
-        """The handle of a file."""
         return self.ask("OPEN", path, flags, given or {}).fields[0]
 
     def listing(self, path):
@@ -96,7 +95,6 @@ class Room:
         return [PROGRAM, "serve", "--tree", tree, "--save", tree, *more]
 
     def script(self, *more):
-        """The command of the script for a shell."""
         return shlex.join([SCRIPT, "--program", *self.command(*more)[:1], *self.command(*more)[2:]])
 
     def tree(self, *more):

@@ -7,6 +7,7 @@ Where these are more than the program allows, or paths are, it has to say so and
 import os
 import re
 import subprocess
+from collections.abc import Iterable
 from dataclasses import dataclass
 
 from infer_trials import judging
@@ -34,149 +35,131 @@ DIRECTORY, FILE, LINK = ({"size": size, "owner": OWNER, "permissions": kind} for
 
 @dataclass
 class Costly:
-    """A session: its records, how many places replies tell of, how many bytes more it may take, with which statuses the
-    program may end, and options that it is given."""
+    """A session: its requests, each with its reply; how many places replies tell of, with which statuses the program
+    may end, how many bytes more it may take, and options that it is given."""
 
-    records: list
+    exchanges: Iterable
     places: int
-    more: int
-    statuses: tuple
+    statuses: tuple = (FOUND,)
+    more: int = 0
     words: tuple = ()
 
-
-def records(exchanges):
-    """The records of a session in which each request has its reply at once."""
-    found = [*BEGUN]
-    for number, ((asked, *fields), (replied, *values)) in enumerate(exchanges):
-        found += [(CLIENT, encode(Packet(number, asked, fields))), (SERVER, encode(Packet(number, replied, values)))]
-    return found
+    def records(self):
+        """The records of a session in which each request has its reply at once."""
+        found = [*BEGUN]
+        for number, ((asked, *fields), (replied, *values)) in enumerate(self.exchanges):
+            found += [(CLIENT, encode(Packet(number, asked, fields))),
+                      (SERVER, encode(Packet(number, replied, values)))]
+        return found
 
 
 def status_of(code):
     return "STATUS", code, b"", b""
 
 
-def listing(place, names, attributes, together=100):
+def listing(place, count, attributes, together=100):
     """A listing of a directory, so many names a reply."""
+    names = names_of(count)
     yield ("OPENDIR", place), ("HANDLE", b"h")
-    for first in range(0, len(names), together):
+    for first in range(0, count, together):
         yield ("READDIR", b"h"), ("NAME", [(name, name, attributes) for name in names[first:first + together]])
     yield ("READDIR", b"h"), status_of(1)
     yield ("CLOSE", b"h"), status_of(0)
 
 
-def names_of(count, form=b"name%05d"):
-    return [form % number for number in range(count)]
-
-
-def many_names(count):
-    return Costly(records(listing(b"/", names_of(count), FILE)), count, 0, (FOUND,))
+def names_of(count):
+    return [b"name%05d" % number for number in range(count)]
 
 
 def links(count):
     """Links in a directory that was listed, which then lead nowhere."""
-    def exchanges():
-        yield from listing(b"/d", names_of(count), LINK)
-        for name in names_of(count):
-            yield ("STAT", b"/d/" + name), status_of(2)
-    return Costly(records(exchanges()), count, 0, (FOUND,))
+    yield from listing(b"/d", count, LINK)
+    for name in names_of(count):
+        yield ("STAT", b"/d/" + name), status_of(2)
 
 
 def lonely(count):
     """Directories with one file each."""
-    def exchanges():
-        for name in names_of(count):
-            yield ("STAT", b"/" + name + b"/file"), ("ATTRS", FILE)
-    return Costly(records(exchanges()), 2 * count, 0, (FOUND,))
+    for name in names_of(count):
+        yield ("STAT", b"/" + name + b"/file"), ("ATTRS", FILE)
 
 
-def deep(count, statuses):
+def deep(count):
     """A home of many bytes, and directories there that refusals seem to say are not there, with a place below each."""
     home = b"".join(b"/" + bytes([97 + depth % 26]) * 60 for depth in range(60))
-
-    def exchanges():
-        yield ("REALPATH", b"."), ("NAME", [(home, home, {})])
-        for name in names_of(count):
-            yield ("STAT", name + b"/b"), status_of(2)
-        yield from listing(b".", names_of(count), DIRECTORY)
-    return Costly(records(exchanges()), 2 * count, 0, statuses)
+    yield ("REALPATH", b"."), ("NAME", [(home, home, {})])
+    for name in names_of(count):
+        yield ("STAT", name + b"/b"), status_of(2)
+    yield from listing(b".", count, DIRECTORY)
 
 
 def ambiguous(count):
     """Refusals with several reasons each, and then a contradiction."""
-    def exchanges():
-        for number in range(count):
-            yield ("RENAME", b"/a%d" % number, b"/b%d" % number), status_of(4)
-        yield ("RMDIR", b"/z"), status_of(0)
-        yield ("STAT", b"/z"), ("ATTRS", FILE)
-    return Costly(records(exchanges()), count, 0, (NOT_FOUND,))
+    for number in range(count):
+        yield ("RENAME", b"/a%d" % number, b"/b%d" % number), status_of(4)
+    yield ("RMDIR", b"/z"), status_of(0)
+    yield ("STAT", b"/z"), ("ATTRS", FILE)
+
+
+def at(place, data, is_written):
+    """Bytes of a file that are written, or read."""
+    if is_written:
+        return ("WRITE", b"h", place, data), status_of(0)
+    return ("READ", b"h", place, len(data)), ("DATA", data)
 
 
 def scattered(count, is_written):
     """Single bytes of a file, far from each other."""
-    def exchanges():
-        yield ("OPEN", b"/f", 10 if is_written else 1, {}), ("HANDLE", b"h")
-        for number in range(count):
-            if is_written:
-                yield ("WRITE", b"h", 2 * number, b"x"), status_of(0)
-            else:
-                yield ("READ", b"h", 2 * number, 1), ("DATA", b"x")
-    return Costly(records(exchanges()), 1, 0, (FOUND,))
+    yield ("OPEN", b"/f", 10 if is_written else 1, {}), ("HANDLE", b"h")
+    for number in range(count):
+        yield at(2 * number, b"x", is_written)
 
 
-def sized(count, size, status, words=()):
+def sized(count, size):
     """Files of which the size alone is told."""
-    def exchanges():
-        for number in range(count):
-            yield ("STAT", b"/f%d" % number), ("ATTRS", {**FILE, "size": size})
-    return Costly(records(exchanges()), count, count * size if status == FOUND else 0, (status,), words)
+    for number in range(count):
+        yield ("STAT", b"/f%d" % number), ("ATTRS", {**FILE, "size": size})
 
 
-def grown(count, size, status, words=()):
+def grown(count, size):
     """Files that the session makes, and gives a size."""
-    def exchanges():
-        for number in range(count):
-            yield ("OPEN", b"/f%d" % number, 26, {}), ("HANDLE", b"h")
-            yield ("FSETSTAT", b"h", {"size": size}), status_of(0)
-            yield ("CLOSE", b"h"), status_of(0)
-    return Costly(records(exchanges()), count, count * size if status == FOUND else 0, (status,), words)
+    for number in range(count):
+        yield ("OPEN", b"/f%d" % number, 26, {}), ("HANDLE", b"h")
+        yield ("FSETSTAT", b"h", {"size": size}), status_of(0)
+        yield ("CLOSE", b"h"), status_of(0)
 
 
 def whole(count, is_written):
     """Files of 4 MiB that are read or written whole."""
-    def exchanges():
-        block = bytes(range(1, 129)) * 256
-        for number in range(count):
-            yield ("OPEN", b"/f%d" % number, 10 if is_written else 1, {}), ("HANDLE", b"h")
-            for place in range(128):
-                if is_written:
-                    yield ("WRITE", b"h", place * len(block), block), status_of(0)
-                else:
-                    yield ("READ", b"h", place * len(block), len(block)), ("DATA", block)
-            yield ("CLOSE", b"h"), status_of(0)
-    return Costly(records(exchanges()), count, 0, (FOUND,))
+    block = bytes(range(1, 129)) * 256
+    for number in range(count):
+        yield ("OPEN", b"/f%d" % number, 10 if is_written else 1, {}), ("HANDLE", b"h")
+        for place in range(128):
+            yield at(place * len(block), block, is_written)
+        yield ("CLOSE", b"h"), status_of(0)
 
 
 SESSIONS = {
-    "a directory of 20,000 names": lambda: many_names(20_000),
-    "a directory of 100,000 names": lambda: many_names(100_000),
-    "50,000 directories of one file each": lambda: lonely(50_000),
-    "2,000 links of a directory, which lead nowhere": lambda: links(2_000),
-    "200 directories at a home of 3,660 bytes": lambda: deep(200, (FOUND, NOT_FOUND)),
-    "20,000 directories at a home of 3,660 bytes": lambda: deep(20_000, (TOO_LARGE, NOT_FOUND)),
-    "20,000 refusals with several reasons each": lambda: ambiguous(20_000),
-    "100,000 single bytes that are read": lambda: scattered(100_000, False),
-    "100,000 single bytes that are written": lambda: scattered(100_000, True),
-    "8 files of 16 MiB of which the size is told": lambda: sized(8, 16 << 20, FOUND),
-    "a file of 80 MiB of which the size is told": lambda: sized(1, 80 << 20, FOUND),
-    "a file of 5 GiB of which the size is told": lambda: sized(1, 5 << 30, TOO_LARGE),
-    "a file of 2 TiB of which the size is told": lambda: sized(1, 2 << 40, NOT_FOUND),
-    "8 files of 16 MiB with --memory for 7": lambda: sized(8, 16 << 20, TOO_LARGE, ("--memory", str(7 << 24))),
-    "100 files of 16 MiB of which the size is told": lambda: sized(100, 16 << 20, TOO_LARGE),
-    "8 files that the session gives 16 MiB": lambda: grown(8, 16 << 20, FOUND),
-    "100 files that the session gives 16 MiB": lambda: grown(100, 16 << 20, TOO_LARGE),
-    "200 MiB that are read": lambda: whole(50, False),
-    "200 MiB that are written": lambda: whole(50, True),
+    "a directory of 20,000 names": Costly(listing(b"/", 20_000, FILE), 20_000),
+    "a directory of 100,000 names": Costly(listing(b"/", 100_000, FILE), 100_000),
+    "50,000 directories of one file each": Costly(lonely(50_000), 100_000),
+    "2,000 links of a directory, which lead nowhere": Costly(links(2_000), 2_000),
+    "200 directories at a home of 3,660 bytes": Costly(deep(200), 400, (FOUND, NOT_FOUND)),
+    "20,000 directories at a home of 3,660 bytes": Costly(deep(20_000), 40_000, (TOO_LARGE, NOT_FOUND)),
+    "20,000 refusals with several reasons each": Costly(ambiguous(20_000), 20_000, (NOT_FOUND,)),
+    "100,000 single bytes that are read": Costly(scattered(100_000, False), 1),
+    "100,000 single bytes that are written": Costly(scattered(100_000, True), 1),
+    "8 files of 16 MiB of which the size is told": Costly(sized(8, 16 << 20), 8, more=8 << 24),
+    "a file of 80 MiB of which the size is told": Costly(sized(1, 80 << 20), 1, more=80 << 20),
+    "a file of 5 GiB of which the size is told": Costly(sized(1, 5 << 30), 1, (TOO_LARGE,)),
+    "a file of 2 TiB of which the size is told": Costly(sized(1, 2 << 40), 1, (NOT_FOUND,)),
+    "8 files of 16 MiB with --memory for 7": Costly(sized(8, 16 << 20), 8, (TOO_LARGE,),
+                                                    words=("--memory", str(7 << 24))),
+    "100 files of 16 MiB of which the size is told": Costly(sized(100, 16 << 20), 100, (TOO_LARGE,)),
+    "8 files that the session gives 16 MiB": Costly(grown(8, 16 << 20), 8, more=8 << 24),
+    "100 files that the session gives 16 MiB": Costly(grown(100, 16 << 20), 100, (TOO_LARGE,)),
+    "200 MiB that are read": Costly(whole(50, False), 50),
+    "200 MiB that are written": Costly(whole(50, True), 50),
 }
 
 
@@ -194,10 +177,9 @@ def measured(words):
 def attempt(folder, program, name):
     """Has `infer` look for a tree of this session. Returns why that is wrong, or nothing, and what it took. Raises
     Wrong if it does not end."""
-    session = SESSIONS[name]()
-    transcript = os.path.join(folder, "costly.transcript")
+    session, transcript = SESSIONS[name], os.path.join(folder, "costly.transcript")
     with open(transcript, "wb") as file:
-        size = file.write(put_records(session.records))
+        size = file.write(put_records(session.records()))
     most = BASE + 2 * size + 1024 * session.places + session.more
     words = [program, "infer", "--no-sync", *session.words, "--transcript", transcript, transcript + ".tree"]
     status, seconds, memory, said, why = measured(words)

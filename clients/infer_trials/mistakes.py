@@ -2,6 +2,7 @@
 has looked at everything first. All are refused with their true tree."""
 import os
 import random
+from pathlib import Path
 
 import sftp3
 from infer_trials import judging
@@ -134,18 +135,13 @@ def made(mistake, records, tree_file, transcript, seed):
     return found if len(found) <= MOST else random.Random(seed).sample(found, MOST)
 
 
-def put(records, name):
-    with open(name, "wb") as file:
-        file.write(sftp3.put_records(records))
-
-
 def is_mistake(records, tree_file, name):
-    put(records, name)
+    Path(name).write_bytes(sftp3.put_records(records))
     is_right = judging.accepted_with(program.program(), tree_file, name)[0]
     os.remove(name)
     return not is_right
 
 
 def judge(records, tree_file, name):
-    put(records, name)
+    Path(name).write_bytes(sftp3.put_records(records))
     return not judging.accepted_without(program.program(), name)[0], name

@@ -90,7 +90,6 @@ class Place:
         time.sleep(OLD)
 
     def record(self, date, number=1):
-        """The name of a record of this date."""
         return self.records / f"{USER}-{date}-local-{number}.transcript"
 
     def write_record(self, date, data, ended):
@@ -124,7 +123,6 @@ class Place:
 
 @contextmanager
 def room():
-    """A place for a trial."""
     with tempfile.TemporaryDirectory(prefix="sftpv3-nightly-", dir=temporary.folder()) as folder:
         yield Place(Path(folder))
 

@@ -35,13 +35,12 @@ class Byte:
         if isinstance(byte, str):
             return byte
         if self.packet == KIND:
-            return f"0x{byte:02x} ({packets.REPLIES.get(byte, ('unknown',))[0]})"
+            return f"0x{byte:02x} ({packets.REPLIES.get(byte, 'unknown')})"
         if self.packet == CODE:
             return f"0x{byte:02x} ({sftp3.code_name(byte)})"
         return f"0x{byte:02x}" + (f" {packets.quoted(bytes([byte]))}" if byte in packets.PLAIN else "")
 
     def text(self):
-        """One line."""
         places = [f"byte {self.packet:,} of the packet"]
         places += [] if self.data is None else [f"byte {self.data:,} of the data"]
         places += [] if self.file is None else [f"byte {self.file:,} of the file"]
@@ -66,7 +65,7 @@ def byte_of_reply(lines, request, reply):
     return Byte(KIND, None, None, wanted, reply[KIND]) if wanted not in (None, reply[KIND]) else None
 
 
-KINDS = {name: kind for kind, (name, _) in packets.REPLIES.items()}
+KINDS = {name: kind for kind, name in packets.REPLIES.items()}
 
 
 def of_data(expected, found, request, reply):

@@ -78,8 +78,6 @@ CELLS = 1000
 
 @dataclass
 class Run:
-    """What a run found."""
-
     title: str
     # The last line that is printed.
     summary: str
@@ -90,7 +88,6 @@ class Run:
 
 
 def page_of_run(run):
-    """The text of the page."""
     verdict = "no" if run.differences else "yes"
     sign = "✗" if run.differences else "✓"
     body = [f'<header><p class="of">{safe(run.title)}</p><h1 class="{verdict}"><span aria-hidden="true">{sign}</span> '

@@ -72,7 +72,6 @@ def flags_of(flags):
 
 
 def attributes_of(given):
-    """Attributes in a few words."""
     words = []
     if "size" in given:
         words.append(f"size {given['size']}")
@@ -110,12 +109,6 @@ def raw(data, trouble):
 
 def in_hex(data):
     return " ".join(f"{byte:02x}" for byte in data) or "none"
-
-
-def whole(fields):
-    """Nothing may follow the fields of a packet."""
-    if fields.place < len(fields.data):
-        raise sftp3.Malformed(f"{len(fields.data) - fields.place} bytes follow the last field")
 
 
 def fields_of(data):
@@ -170,6 +163,12 @@ def more(listed):
     return [("more", f"{len(listed) - LISTED:,}")] if len(listed) > LISTED else []
 
 
+# Replies by their types, and those with one field: how it is shown, and read.
+REPLIES = {kind: name for name, (kind, _) in sftp3.REPLIES.items()}
+OF_ONE_FIELD = {sftp3.HANDLE: ("handle", sftp3.Fields.string), sftp3.DATA: ("data", sftp3.Fields.string),
+                sftp3.ATTRS: ("attributes", sftp3.Fields.attributes), sftp3.EXTENDED_REPLY: ("data", sftp3.Fields.rest)}
+
+
 def of_server(data):
     fields = fields_of(data)
     kind = fields.byte()
@@ -178,54 +177,33 @@ def of_server(data):
     if kind not in REPLIES:
         raise sftp3.Malformed(f"no reply has the type {kind}")
     number = fields.uint32()
-    name, read = REPLIES[kind]
-    packet = read(name, number, fields)
-    whole(fields)
-    return packet
+    line, shown = {sftp3.STATUS: of_status, sftp3.NAME: of_names}.get(kind, of_one_field)(kind, fields)
+    if fields.left():
+        raise sftp3.Malformed(f"{fields.left()} bytes follow the last field")
+    return Packet(REPLIES[kind], number, line, shown)
 
 
-def of_status(name, number, fields):
+def of_status(_, fields):
     code = fields.uint32()
     shown = [("code", code_of(code))]
     # some servers leave out both
-    if fields.place < len(fields.data):
+    if fields.left():
         shown += [("message", quoted(fields.string(), LONG)), ("language", quoted(fields.string(), LONG))]
-    return Packet(name, number, code_of(code), shown)
+    return code_of(code), shown
 
 
-def of_handle(name, number, fields):
-    handle = fields.string()
-    return Packet(name, number, of_handle_bytes(handle, SHORT), [("handle", of_handle_bytes(handle, LONG))])
-
-
-def of_data(name, number, fields):
-    data = fields.string()
-    return Packet(name, number, of_field("data", data, SHORT), [("data", of_field("data", data, LONG))])
-
-
-def of_names(name, number, fields):
+def of_names(_, fields):
     items = fields.names()
     first = " ".join(quoted(item[0], SHORT) for item in items[:3])
     shown = [(quoted(item[0], LONG), attributes_of(item[2])) for item in items[:LISTED]]
     count = f"{len(items):,} name{'s' if len(items) != 1 else ''}"
-    return Packet(name, number, f"{count} {first}{' ...' if len(items) > 3 else ''}", shown + more(items))
+    return f"{count} {first}{' ...' if len(items) > 3 else ''}", shown + more(items)
 
 
-def of_attributes(name, number, fields):
-    given = attributes_of(fields.attributes())
-    return Packet(name, number, given, [("attributes", given)])
-
-
-def of_extended(name, number, fields):
-    rest = fields.rest()
-    return Packet(name, number, of_field("data", rest, SHORT), [("data", of_field("data", rest, LONG))])
-
-
-REPLIES = {
-    sftp3.STATUS: ("STATUS", of_status), sftp3.HANDLE: ("HANDLE", of_handle), sftp3.DATA: ("DATA", of_data),
-    sftp3.NAME: ("NAME", of_names), sftp3.ATTRS: ("ATTRS", of_attributes),
-    sftp3.EXTENDED_REPLY: ("EXTENDED_REPLY", of_extended),
-}
+def of_one_field(kind, fields):
+    name, read = OF_ONE_FIELD[kind]
+    value = read(fields)
+    return of_field(name, value, SHORT), [(name, of_field(name, value, LONG))]
 
 
 def kind_of(side, data):

@@ -67,7 +67,6 @@ class Server(Client):
         return sftp3.Reply(self.ask("MKDIR", name.encode(), {})).code == sftp3.OK
 
     def handle(self, name, *fields):
-        """The handle that a request opens."""
         return sftp3.Reply(self.ask(name, *fields)).handle
 
     def create(self, name):
@@ -170,5 +169,4 @@ class Room:
             return {it.name.lstrip("./"): archive.extractfile(it).read() for it in archive if it.isfile()}
 
     def left(self):
-        """The names in the folder."""
         return sorted(it.name for it in self.folder.iterdir())

@@ -162,12 +162,16 @@ def wait_for_keeper(keeper, told):
     try:
         said = os.read(stand_by(told), 64)
         os.waitpid(keeper, 0)
-        status = os.waitstatus_to_exitcode(int(said)) if said else -signal.SIGKILL
-        if status >= 0:
-            os._exit(status)
+        end_as(os.waitstatus_to_exitcode(int(said)) if said else -signal.SIGKILL)
+    finally:
+        os._exit(1)
+
+
+def end_as(status):
+    """Ends this process as another one ended, by its status as subprocess has it."""
+    if status < 0:
         if -status not in (signal.SIGKILL, signal.SIGSTOP):
             signal.signal(-status, signal.SIG_DFL)
         resource.setrlimit(resource.RLIMIT_CORE, (0, 0))
         os.kill(os.getpid(), -status)
-    finally:
-        os._exit(1)
+    os._exit(status)

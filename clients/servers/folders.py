@@ -41,6 +41,15 @@ class Bad(Exception):
     """A tree that cannot be made into a folder."""
 
 
+@contextlib.contextmanager
+def closed_behind(descriptor):
+    """A descriptor, for a block behind which it is closed."""
+    try:
+        yield descriptor
+    finally:
+        os.close(descriptor)
+
+
 def tell(text):
     print(f"{os.path.basename(sys.argv[0])}: {text}", file=sys.stderr)
 
@@ -91,8 +100,7 @@ class Builder:
         names = self.names(member.name)
         if not names:
             return
-        parent = self.open(names[:-1])
-        try:
+        with closed_behind(self.open(names[:-1])) as parent:
             if member.isdir():
                 os.mkdir(names[-1], 0o700, dir_fd=parent)
             elif member.issym():
@@ -101,15 +109,10 @@ class Builder:
                 self.link(self.names(member.linkname), parent, names[-1])
             else:
                 self.put_file(parent, names[-1], member, content)
-        finally:
-            os.close(parent)
 
     def link(self, first, parent, name):
-        of_first = self.open(first[:-1])
-        try:
+        with closed_behind(self.open(first[:-1])) as of_first:
             os.link(first[-1], name, src_dir_fd=of_first, dst_dir_fd=parent, follow_symlinks=False)
-        finally:
-            os.close(of_first)
 
     def put_file(self, parent, name, member, content):
         with open(os.open(name, NEW_FILE, 0o600, dir_fd=parent), "wb") as file:
@@ -127,15 +130,11 @@ class Builder:
         os.fchmod(descriptor, permissions)
 
     def own_directory(self, member):
-        directory = self.open(self.names(member.name))
-        try:
+        with closed_behind(self.open(self.names(member.name))) as directory:
             self.own(directory, member)
-        finally:
-            os.close(directory)
 
 
 def fill(builder, tree_file):
-    """Makes all that the tree file has."""
     words = [program.program(), "export", "--", tree_file]
     with subprocess.Popen(words, stdin=subprocess.DEVNULL, stdout=subprocess.PIPE, stderr=subprocess.PIPE) as exported:
         source = {"fileobj": exported.stdout, "encoding": "utf-8", "errors": "surrogateescape"}
@@ -174,26 +173,18 @@ def remove_left(room):
 
 
 def names_left(room):
-    names = []
-    with contextlib.suppress(OSError):
-        readable = mounted.folder_at(".", room)
-        try:
-            names = os.listdir(readable)
-        finally:
-            os.close(readable)
-    return [name for name in names if name.startswith(PREFIX)]
+    with contextlib.suppress(OSError), closed_behind(mounted.folder_at(".", room)) as readable:
+        return [name for name in os.listdir(readable) if name.startswith(PREFIX)]
+    return []
 
 
 def remove_if_left(name, room):
-    held = mounted.folder_at(name, room)
-    try:
+    with closed_behind(mounted.folder_at(name, room)) as held:
         state = os.fstat(held)
         is_own = state.st_uid == os.geteuid() and stat.S_IMODE(state.st_mode) == 0o700
         if is_own and os.listdir(held) in ([], [ROOT]):
             fcntl.flock(held, fcntl.LOCK_EX | fcntl.LOCK_NB)
             remove_whole(held, name, room)
-    finally:
-        os.close(held)
 
 
 def remove_whole(held, name, room):

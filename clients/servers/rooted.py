@@ -10,7 +10,6 @@ import os
 import re
 import resource
 import shutil
-import signal
 import stat
 import subprocess
 import sys
@@ -80,14 +79,9 @@ def folder_of(arguments, package, program):
         return fail(f"{arguments[1]}: {error}")
 
 
-@contextlib.contextmanager
 def directory_below(above, name):
     """A descriptor of a directory of this name, which is not reached through a link."""
-    held = os.open(name, folders.DIRECTORY, dir_fd=above)
-    try:
-        yield held
-    finally:
-        os.close(held)
+    return folders.closed_behind(os.open(name, folders.DIRECTORY, dir_fd=above))
 
 
 def put_file(source, directory, name):
@@ -208,11 +202,8 @@ def put_program(folder, program):
 @contextlib.contextmanager
 def mounted(directory, name):
     """A path of what is mounted at this name of a directory."""
-    held = os.open(name, os.O_PATH | os.O_NOFOLLOW, dir_fd=directory)
-    try:
+    with folders.closed_behind(os.open(name, os.O_PATH | os.O_NOFOLLOW, dir_fd=directory)) as held:
         yield f"/proc/self/fd/{held}"
-    finally:
-        os.close(held)
 
 
 class Lent:
@@ -310,16 +301,6 @@ def run(folder, program, arguments):
     return status
 
 
-def end(status):
-    """Ends this process as the server did."""
-    sys.stdout.flush()
-    if status < 0:
-        signal.signal(-status, signal.SIG_DFL)
-        resource.setrlimit(resource.RLIMIT_CORE, (0, 0))
-        os.kill(os.getpid(), -status)
-    os._exit(status)
-
-
 def serve_in_folder(package, program, session):
     """Has a session of a server in the folder of the tree, by a function of it that gives the server's status, and ends
     this process as the server did."""
@@ -334,7 +315,8 @@ def serve_in_folder(package, program, session):
                 ending.hold_off()
     except ending.Signalled as came:
         sys.exit(came.status)
-    end(status)
+    sys.stdout.flush()
+    apart.end_as(status)
 
 
 def serve(program, package, fixed=()):

@@ -140,7 +140,6 @@ def init(number: int = 3) -> bytes:
 
 
 def request(number: int, name: str, *fields: object) -> bytes:
-    """A request by its id and its name."""
     return encode(Request(number, name, list(fields)))
 
 
@@ -198,7 +197,6 @@ def names_in(data: bytes) -> list:
 
 
 def attributes_in(data: bytes) -> dict:
-    """The attributes of an ATTRS."""
     return Fields(data[9:]).attributes()
 
 

@@ -12,7 +12,6 @@ BEGUN = ((CLIENT, init()), (SERVER, version(3, [])))
 
 
 def put_records(given: Iterable[tuple[bytes, bytes]]) -> bytes:
-    """The transcript of these records."""
     return OPENING + b"".join(side + data for side, data in given)
 
 

@@ -81,7 +81,6 @@ class Tree:
         return Tree(entries, self.home, self.uid, self.gid, self.root, self.limits)
 
     def most_entries(self) -> int:
-        """The most entries below the root."""
         return self.limits[0]
 
     def has_times(self) -> bool:
@@ -92,7 +91,6 @@ class Tree:
         return self.limits[1]
 
     def most_read(self) -> int:
-        """The most bytes that one READ gives."""
         return self.limits[2]
 
 

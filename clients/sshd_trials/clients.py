@@ -22,7 +22,6 @@ class Where:
         self.large.write_bytes(LARGE)
 
     def batch(self, *commands):
-        """A session of sftp."""
         return run(["sftp", "-q", *OPTIONS, "-b", "-", f"{self.user}@127.0.0.1"],
                    input="\n".join([f"cd {self.seen}", *commands]), cwd=self.room)
 

@@ -140,6 +140,5 @@ class ServerOfLftp:
                 "open -u user,pass sftp://server/"]
 
     def wait(self):
-        """Waits until it has ended."""
         with open(self.lock, "ab") as lock:
             fcntl.flock(lock, fcntl.LOCK_EX)

@@ -33,7 +33,6 @@ class Kept:
     text: str
 
     def options(self) -> list[str]:
-        """The options of an audit by the profile."""
         return POSIX + (["--symlink", "draft"] if self.name == DRAFT else [])
 
     def write(self, program: str, folder: str) -> str:

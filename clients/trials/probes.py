@@ -46,7 +46,6 @@ def run_probe(*words):
 
 
 def groups_of(report):
-    """The groups that a report in JSON has."""
     with open(report, encoding="utf-8") as file:
         return [line for line in map(json.loads, file) if "kind" in line]
 

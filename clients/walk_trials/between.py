@@ -3,7 +3,8 @@ between it and the client has the fault.
 
     python3 clients/walk_trials/between.py KIND COMMAND [ARGUMENT ...]
 
-KIND is the name of a class below, whose text says what goes wrong. Requests are passed on one at a time.
+KIND is the name of a class or of a row of KINDS below, whose text says what goes wrong. Requests are passed on one at a
+time.
 """
 import os
 import signal
@@ -33,41 +34,6 @@ class Listings(Healthy):
         return with_names(packet, self.items(sftp3.names_in(packet)))
 
 
-class name_left_out(Listings):
-    """No listing has `f`."""
-
-    def items(self, found):
-        return [it for it in found if it[0] != b"f"]
-
-
-class name_twice(Listings):
-    """A listing has its first name twice."""
-
-    def items(self, found):
-        return found + [it for it in found if it[0] not in (b".", b"..")][:1]
-
-
-class name_invented(Listings):
-    """A listing has a name of nothing."""
-
-    def items(self, found):
-        return [*found, (b"invented", b"", {})]
-
-
-class listed_size(Listings):
-    """A listing shows a byte more than a file has."""
-
-    def items(self, found):
-        return [(name, text, {**given, "size": given["size"] + 1}) for name, text, given in found]
-
-
-class listing_fails(Healthy):
-    """A listing does not end, but fails."""
-
-    def reply(self, asked, packet):
-        return status(asked.number, sftp3.FAILURE) if asked.name == "READDIR" and packet[4] == sftp3.STATUS else packet
-
-
 class Reads(Healthy):
     """Gives other bytes to a READ that finds some."""
 
@@ -75,43 +41,8 @@ class Reads(Healthy):
         return with_data(packet, self.data(data_of(packet))) if packet[4] == sftp3.DATA else packet
 
 
-class read_lacks_last(Reads):
-    """A READ gives a byte less than there are."""
-
-    def data(self, found):
-        return found[:-1]
-
-
-class read_more(Reads):
-    """A READ gives a byte more than was asked for."""
-
-    def data(self, found):
-        return found + b"x"
-
-
-class read_other(Reads):
-    """A READ gives bytes of 0."""
-
-    def data(self, found):
-        return bytes(len(found))
-
-
-class read_ends_early(Healthy):
-    """A READ that does not begin at 0 finds the end."""
-
-    def reply(self, asked, packet):
-        return status(asked.number, sftp3.EOF) if packet[4] == sftp3.DATA and asked.fields[1] else packet
-
-
-class read_empty_at_end(Healthy):
-    """A READ at the end gives DATA of no bytes."""
-
-    def reply(self, asked, packet):
-        return with_data(packet, b"") if asked.name == "READ" and packet[4] == sftp3.STATUS else packet
-
-
 class Attributes(Healthy):
-    """Tells other attributes of `f`, or of a link."""
+    """Tells other attributes of `f`."""
 
     meant = FILE
 
@@ -121,66 +52,13 @@ class Attributes(Healthy):
         given = sftp3.attributes_in(packet)
         if given["permissions"] & TYPES != self.meant & TYPES:
             return packet
-        self.change(given)
-        return sftp3.packet(sftp3.ATTRS, packet[5:9] + sftp3.attributes(given))
+        return sftp3.packet(sftp3.ATTRS, packet[5:9] + sftp3.attributes(self.changed(given)))
 
 
-class size_more(Attributes):
-    """A file has a byte more than it has."""
-
-    def change(self, given):
-        given["size"] += 1
-
-
-class size_less(Attributes):
-    """A file has a byte less than it has, if it has some."""
-
-    def change(self, given):
-        given["size"] = max(0, given["size"] - 1)
-
-
-class no_size(Attributes):
-    """A file has no size."""
-
-    def change(self, given):
-        del given["size"]
-
-
-class file_as_directory(Attributes):
-    """A file is a directory."""
-
-    def change(self, given):
-        given["permissions"] = DIRECTORY
-
-
-class file_as_fifo(Attributes):
-    """A file is a FIFO."""
-
-    def change(self, given):
-        given["permissions"] = FIFO
-
-
-class link_as_file(Attributes):
-    """A link is a file."""
+class LinkAttributes(Attributes):
+    """Tells other attributes of a link."""
 
     meant = LINK
-
-    def change(self, given):
-        given["permissions"] = FILE
-
-
-class target_other(Healthy):
-    """A link leads elsewhere."""
-
-    def reply(self, asked, packet):
-        return with_names(packet, [(b"elsewhere", b"", {})]) if asked.name == "READLINK" else packet
-
-
-class target_twice(Healthy):
-    """A link has two targets."""
-
-    def reply(self, asked, packet):
-        return with_names(packet, sftp3.names_in(packet) * 2) if asked.name == "READLINK" else packet
 
 
 class Once(Healthy):
@@ -188,62 +66,6 @@ class Once(Healthy):
 
     def reply(self, asked, packet):
         return self.once(asked, packet) if self.count == ONCE else packet
-
-
-class other_id(Once):
-    """A reply has an id that no request has."""
-
-    def once(self, asked, packet):
-        return packet[:5] + (asked.number + 5000).to_bytes(4, "big") + packet[9:]
-
-
-class reply_twice(Once):
-    """A reply comes twice."""
-
-    def once(self, asked, packet):
-        return packet * 2
-
-
-class second_version(Once):
-    """A VERSION comes before a reply."""
-
-    def once(self, asked, packet):
-        return sftp3.version(3, []) + packet
-
-
-class unknown_type(Once):
-    """A packet of a type that SFTP does not have comes before a reply."""
-
-    def once(self, asked, packet):
-        return sftp3.packet(150, packet[5:9]) + packet
-
-
-class long_reply(Once):
-    """A reply is longer than one may be."""
-
-    def once(self, asked, packet):
-        return sftp3.packet(sftp3.STATUS, packet[5:9] + bytes(4) + sftp3.string(b"x" * 300_000) + bytes(4))
-
-
-class byte_behind_fields(Once):
-    """A reply has a byte more than its fields have."""
-
-    def once(self, asked, packet):
-        return sftp3.packet(packet[4], packet[5:] + b"\0")
-
-
-class cut_field(Once):
-    """A reply ends within a field."""
-
-    def once(self, asked, packet):
-        return sftp3.packet(packet[4], packet[5:9] + b"\0")
-
-
-class empty_packet(Once):
-    """A packet of no bytes comes before a reply."""
-
-    def once(self, asked, packet):
-        return bytes(4) + packet
 
 
 class cut_reply(Once):
@@ -272,13 +94,6 @@ class trickles(Once):
         return b""
 
 
-class dies(Once):
-    """The server ends."""
-
-    def once(self, asked, packet):
-        os._exit(0)
-
-
 class last_twice(Healthy):
     """The last reply comes once more when the input has ended."""
 
@@ -292,20 +107,6 @@ class last_twice(Healthy):
         return self.last
 
 
-class last_words(Healthy):
-    """Bytes that are no packet come when the input has ended."""
-
-    def end(self):
-        return b"bye\n"
-
-
-class last_half(Healthy):
-    """Half of a packet comes when the input has ended."""
-
-    def end(self):
-        return status(7, sftp3.OK)[:9]
-
-
 class crashes_at_end(Healthy):
     """The server crashes when the input has ended, and each request has its reply."""
 
@@ -314,34 +115,12 @@ class crashes_at_end(Healthy):
         return b""
 
 
-class fails_at_end(Healthy):
-    """The server ends with status 7 when the input has ended."""
-
-    def end(self):
-        sys.exit(7)
-
-
 class stays_at_end(Healthy):
     """The server goes on when the input has ended."""
 
     def end(self):
         time.sleep(600)
         return b""
-
-
-class handle_again(Healthy):
-    """All that is open has one handle."""
-
-    def reply(self, asked, packet):
-        return sftp3.packet(sftp3.HANDLE, packet[5:9] + sftp3.string(bytes(4))) \
-            if packet[4] == sftp3.HANDLE else packet
-
-
-class close_fails(Healthy):
-    """CLOSE fails."""
-
-    def reply(self, asked, packet):
-        return status(asked.number, sftp3.FAILURE) if asked.name == "CLOSE" else packet
 
 
 class denied(Healthy):
@@ -368,19 +147,75 @@ class grows(Meanwhile):
             file.write(b"more")
 
 
-class shrinks(Meanwhile):
-    """The file loses bytes."""
-
-    def change(self, path):
-        os.truncate(path, 1)
+def kinds(above, method, faults):
+    """A class below this one for each fault: its name, what goes wrong, and what this method does."""
+    return {name: type(name, (above,), {"__doc__": text, method: staticmethod(act)}) for name, text, act in faults}
 
 
-class goes_away(Meanwhile):
-    """The file is removed."""
-
-    def change(self, path):
-        os.remove(path)
+KINDS = {
+    **kinds(Listings, "items", [
+        ("name_left_out", "No listing has `f`.", lambda found: [it for it in found if it[0] != b"f"]),
+        ("name_twice", "A listing has its first name twice.",
+         lambda found: found + [it for it in found if it[0] not in (b".", b"..")][:1]),
+        ("name_invented", "A listing has a name of nothing.", lambda found: [*found, (b"invented", b"", {})]),
+        ("listed_size", "A listing shows a byte more than a file has.",
+         lambda found: [(name, text, {**given, "size": given["size"] + 1}) for name, text, given in found])]),
+    **kinds(Reads, "data", [
+        ("read_lacks_last", "A READ gives a byte less than there are.", lambda found: found[:-1]),
+        ("read_more", "A READ gives a byte more than was asked for.", lambda found: found + b"x"),
+        ("read_other", "A READ gives bytes of 0.", lambda found: bytes(len(found)))]),
+    **kinds(Attributes, "changed", [
+        ("size_more", "A file has a byte more than it has.", lambda given: {**given, "size": given["size"] + 1}),
+        ("size_less", "A file has a byte less than it has, if it has some.",
+         lambda given: {**given, "size": max(0, given["size"] - 1)}),
+        ("no_size", "A file has no size.", lambda given: {it: given[it] for it in given if it != "size"}),
+        ("file_as_directory", "A file is a directory.", lambda given: {**given, "permissions": DIRECTORY}),
+        ("file_as_fifo", "A file is a FIFO.", lambda given: {**given, "permissions": FIFO})]),
+    **kinds(LinkAttributes, "changed", [
+        ("link_as_file", "A link is a file.", lambda given: {**given, "permissions": FILE})]),
+    **kinds(Healthy, "reply", [
+        ("listing_fails", "A listing does not end, but fails.",
+         lambda asked, packet: status(asked.number, sftp3.FAILURE)
+         if asked.name == "READDIR" and packet[4] == sftp3.STATUS else packet),
+        ("read_ends_early", "A READ that does not begin at 0 finds the end.",
+         lambda asked, packet: status(asked.number, sftp3.EOF)
+         if packet[4] == sftp3.DATA and asked.fields[1] else packet),
+        ("read_empty_at_end", "A READ at the end gives DATA of no bytes.",
+         lambda asked, packet: with_data(packet, b"")
+         if asked.name == "READ" and packet[4] == sftp3.STATUS else packet),
+        ("target_other", "A link leads elsewhere.",
+         lambda asked, packet: with_names(packet, [(b"elsewhere", b"", {})]) if asked.name == "READLINK" else packet),
+        ("target_twice", "A link has two targets.",
+         lambda asked, packet: with_names(packet, sftp3.names_in(packet) * 2) if asked.name == "READLINK" else packet),
+        ("handle_again", "All that is open has one handle.",
+         lambda asked, packet: sftp3.packet(sftp3.HANDLE, packet[5:9] + sftp3.string(bytes(4)))
+         if packet[4] == sftp3.HANDLE else packet),
+        ("close_fails", "CLOSE fails.",
+         lambda asked, packet: status(asked.number, sftp3.FAILURE) if asked.name == "CLOSE" else packet)]),
+    **kinds(Once, "once", [
+        ("other_id", "A reply has an id that no request has.",
+         lambda asked, packet: packet[:5] + (asked.number + 5000).to_bytes(4, "big") + packet[9:]),
+        ("reply_twice", "A reply comes twice.", lambda _, packet: packet * 2),
+        ("second_version", "A VERSION comes before a reply.", lambda _, packet: sftp3.version(3, []) + packet),
+        ("unknown_type", "A packet of a type that SFTP does not have comes before a reply.",
+         lambda _, packet: sftp3.packet(150, packet[5:9]) + packet),
+        ("long_reply", "A reply is longer than one may be.", lambda _, packet: sftp3.packet(
+            sftp3.STATUS, packet[5:9] + bytes(4) + sftp3.string(b"x" * 300_000) + bytes(4))),
+        ("byte_behind_fields", "A reply has a byte more than its fields have.",
+         lambda _, packet: sftp3.packet(packet[4], packet[5:] + b"\0")),
+        ("cut_field", "A reply ends within a field.",
+         lambda _, packet: sftp3.packet(packet[4], packet[5:9] + b"\0")),
+        ("empty_packet", "A packet of no bytes comes before a reply.", lambda _, packet: bytes(4) + packet),
+        ("dies", "The server ends.", lambda *_: os._exit(0))]),
+    **kinds(Healthy, "end", [
+        ("last_words", "Bytes that are no packet come when the input has ended.", lambda: b"bye\n"),
+        ("last_half", "Half of a packet comes when the input has ended.", lambda: status(7, sftp3.OK)[:9]),
+        ("fails_at_end", "The server ends with status 7 when the input has ended.", lambda: sys.exit(7))]),
+    **kinds(Meanwhile, "change", [
+        ("shrinks", "The file loses bytes.", lambda path: os.truncate(path, 1)),
+        ("goes_away", "The file is removed.", os.remove)]),
+}
 
 
 if __name__ == "__main__":
-    misbehaving.main(planted.classes(globals()))
+    misbehaving.main(planted.classes({**globals(), **KINDS}))

@@ -2,7 +2,8 @@
 
     python3 clients/walk_trials/hostile.py KIND
 
-is a server with a few entries below `/`, of which KIND, the name of a class below, says what is wrong.
+is a server with a few entries below `/`, of which KIND, the name of a class or of a row of KINDS below, says what is
+wrong.
 """
 import os
 import sys
@@ -86,21 +87,6 @@ class Right:
         return status(sftp3.OK)
 
 
-class slash_in_name(Right):
-    def entries(self, path):
-        return [(b"../../etc/" + BOLD + b"passwd", FILE)]
-
-
-class empty_name(Right):
-    def entries(self, path):
-        return [(b"", FILE)]
-
-
-class long_name(Right):
-    def entries(self, path):
-        return [(b"n" * 300, FILE)]
-
-
 class endless_listing(Right):
     """There is always one name more."""
 
@@ -127,81 +113,6 @@ class long_names(Right):
         return names((b"%09d" % self.count + b"n" * 200_000, {}))
 
 
-class ends_above(Right):
-    """The names of a directory lead above it where a byte of 0 ends them."""
-
-    def entries(self, path):
-        return [(b"..\0x", DIRECTORY), (b"f", FILE)]
-
-    def permissions(self, path):
-        return DIRECTORY if path.count(b"/") == 1 or b"\0" in path else FILE
-
-
-class repeating_listing(Right):
-    def permissions(self, path):
-        return FILE if path.endswith(b"f") else DIRECTORY
-
-    def readdir(self, handle):
-        return names((b"f", self.attributes(FILE)))
-
-
-class idle_listing(Right):
-    def permissions(self, path):
-        return DIRECTORY
-
-    def readdir(self, handle):
-        return names()
-
-
-class deep(Right):
-    """Each directory has another one."""
-
-    def entries(self, path):
-        return [(b"d", DIRECTORY)]
-
-    def permissions(self, path):
-        return DIRECTORY
-
-
-class huge_size(Right):
-    size = 1 << 62
-
-
-class wide_size(Right):
-    """Larger than --max-bytes, and a file of a tree may be so large."""
-
-    size = 60_000_000
-
-
-class grows(Right):
-    size = 5
-
-
-class shrinks(Right):
-    size = 70_000
-
-
-class short_reads(Right):
-    """A READ gives one byte."""
-
-    size = 1_000_000
-
-    def read(self, handle, offset, length):
-        return data(b"x") if offset < self.size else status(sftp3.EOF)
-
-
-class empty_reads(Right):
-    def read(self, handle, offset, length):
-        return data(b"")
-
-
-class long_handle(Right):
-    """Each request through it has as many bytes."""
-
-    def opendir(self, path):
-        return sftp3.HANDLE, sftp3.string(b"h" * 200_000)
-
-
 class long_lines(Right):
     """A listing with a name in each reply, and much to show of it."""
 
@@ -213,13 +124,6 @@ class long_lines(Right):
     def readdir(self, handle):
         long_lines.count += 1
         return sftp3.NAME, sftp3.names([(b"%d" % self.count, b"-" * 260_000, {})])
-
-
-class too_much(Right):
-    """A READ gives more than was asked for."""
-
-    def read(self, handle, offset, length):
-        return data(bytes(length + 1))
 
 
 class ring(Right):
@@ -240,47 +144,6 @@ class fifo(Right):
         if path != b"/f":
             time.sleep(600)
         return super().open(path)
-
-
-class no_kinds(Right):
-    """Attributes without permissions."""
-
-    def attributes(self, permissions):
-        return {"size": 1}
-
-
-class relative_realpath(Right):
-    def realpath(self, path):
-        return names((BOLD + b"home", {}))
-
-
-class no_realpath(Right):
-    def realpath(self, path):
-        return status(sftp3.OP_UNSUPPORTED)
-
-
-class long_realpath(Right):
-    def realpath(self, path):
-        return names((b"/" + b"n" * 200 + b"/a" * 20_000, {}))
-
-
-class longest_realpath(Right):
-    """As long as one packet has it."""
-
-    def realpath(self, path):
-        return names((b"/a" * 500_000, {}))
-
-
-class winding_realpath(Right):
-    """Half of it takes the other half back."""
-
-    def realpath(self, path):
-        return names((b"/a" * 100_000 + b"/.." * 100_000, {}))
-
-
-class deep_realpath(Right):
-    def realpath(self, path):
-        return names((b"/a" * 65, {}))
 
 
 class long_requests(Right):
@@ -316,11 +179,6 @@ class denied(Right):
         return status(sftp3.PERMISSION_DENIED)
 
 
-class hang(Right):
-    def opendir(self, path):
-        time.sleep(600)
-
-
 class marks_and_hangs(Right):
     """When it hangs, the file of $MARK is there."""
 
@@ -342,15 +200,6 @@ class marks_and_hangs_at_start(Right):
     def realpath(self, path):
         with open(os.environ["MARK"], "wb"):
             time.sleep(600)
-
-
-class removes(Right):
-    """What is asked to be removed is."""
-
-    def rmdir(self, path):
-        return status(sftp3.OK)
-
-    remove = rmdir
 
 
 class hangs_at_removal(Right):
@@ -383,20 +232,6 @@ class ends(Right):
         os._exit(5)
 
 
-class counts_wrong(Right):
-    """NAME says that it has four billion names."""
-
-    def readdir(self, handle):
-        return sftp3.NAME, b"\xff\xff\xff\xff" + bytes(20)
-
-
-class wrong_type(Right):
-    """Each reply is DATA."""
-
-    def lstat(self, path):
-        return data(b"abc")
-
-
 class many_replies(Right):
     """A thousand replies to nothing."""
 
@@ -418,6 +253,55 @@ class greeting(Right):
         return super().lstat(path)
 
 
+# Servers of which a few members are other ones.
+KINDS = {
+    "slash_in_name": {"entries": lambda *_: [(b"../../etc/" + BOLD + b"passwd", FILE)]},
+    "empty_name": {"entries": lambda *_: [(b"", FILE)]},
+    "long_name": {"entries": lambda *_: [(b"n" * 300, FILE)]},
+    # the names of a directory lead above it where a byte of 0 ends them
+    "ends_above": {
+        "entries": lambda *_: [(b"..\0x", DIRECTORY), (b"f", FILE)],
+        "permissions": lambda _, path: DIRECTORY if path.count(b"/") == 1 or b"\0" in path else FILE},
+    "repeating_listing": {
+        "permissions": lambda _, path: FILE if path.endswith(b"f") else DIRECTORY,
+        "readdir": lambda self, _: names((b"f", self.attributes(FILE)))},
+    "idle_listing": {"permissions": lambda *_: DIRECTORY, "readdir": lambda *_: names()},
+    # each directory has another one
+    "deep": {"entries": lambda *_: [(b"d", DIRECTORY)], "permissions": lambda *_: DIRECTORY},
+    "huge_size": {"size": 1 << 62},
+    # larger than --max-bytes, and a file of a tree may be so large
+    "wide_size": {"size": 60_000_000},
+    "grows": {"size": 5},
+    "shrinks": {"size": 70_000},
+    # a READ gives one byte
+    "short_reads": {
+        "size": 1_000_000,
+        "read": lambda self, _, offset, __: data(b"x") if offset < self.size else status(sftp3.EOF)},
+    "empty_reads": {"read": lambda *_: data(b"")},
+    # a READ gives more than was asked for
+    "too_much": {"read": lambda *fields: data(bytes(fields[-1] + 1))},
+    # each request through a handle has as many bytes
+    "long_handle": {"opendir": lambda *_: (sftp3.HANDLE, sftp3.string(b"h" * 200_000))},
+    # attributes without permissions
+    "no_kinds": {"attributes": lambda *_: {"size": 1}},
+    "relative_realpath": {"realpath": lambda *_: names((BOLD + b"home", {}))},
+    "no_realpath": {"realpath": lambda *_: status(sftp3.OP_UNSUPPORTED)},
+    "long_realpath": {"realpath": lambda *_: names((b"/" + b"n" * 200 + b"/a" * 20_000, {}))},
+    # as long as one packet has it
+    "longest_realpath": {"realpath": lambda *_: names((b"/a" * 500_000, {}))},
+    # half of it takes the other half back
+    "winding_realpath": {"realpath": lambda *_: names((b"/a" * 100_000 + b"/.." * 100_000, {}))},
+    "deep_realpath": {"realpath": lambda *_: names((b"/a" * 65, {}))},
+    "hang": {"opendir": lambda *_: time.sleep(600)},
+    # what is asked to be removed is
+    "removes": {"rmdir": lambda *_: status(sftp3.OK), "remove": lambda *_: status(sftp3.OK)},
+    # NAME says that it has four billion names
+    "counts_wrong": {"readdir": lambda *_: (sftp3.NAME, b"\xff\xff\xff\xff" + bytes(20))},
+    # each reply is DATA
+    "wrong_type": {"lstat": lambda *_: data(b"abc")},
+}
+
+
 def answer(server, asked):
     act = getattr(server, asked.name.lower(), None)
     kind, body = act(*asked.fields) if act else status(sftp3.OP_UNSUPPORTED)
@@ -425,7 +309,8 @@ def answer(server, asked):
 
 
 def main():
-    server, source = globals()[sys.argv[1]](), sys.stdin.buffer
+    kind, source = sys.argv[1], sys.stdin.buffer
+    server = type(kind, (Right,), KINDS[kind])() if kind in KINDS else globals()[kind]()
     while True:
         head = source.read(4)
         if len(head) < 4:

@@ -40,7 +40,6 @@ def walk(folder, options, command):
 
 @contextmanager
 def room():
-    """A folder for a trial."""
     with tempfile.TemporaryDirectory(prefix="sftpv3-test-walk-") as folder:
         yield folder
 

@@ -32,7 +32,6 @@ class Misbehaves(Exception):
 
 
 def shown(path):
-    """A path in a message."""
     return packets.quoted(path, 200)
 
 

@@ -158,7 +158,6 @@ class Walk:
             raise Misbehaves(f"the names of all entries have more than {most:,} bytes")
 
     def file(self, path, size):
-        """Reads a file, if it is to be read."""
         if size is None or size > bounds.LARGEST:
             self.notes.add(path, "has no size" if size is None else
                            f"has {size:,} bytes, more than the {bounds.LARGEST:,} of any tree file")

@@ -112,6 +112,5 @@ def options(about):
 
 
 def profile_words(given):
-    """The options of a profile, for the program."""
     words = verdicts.profile_words(given)
     return words[2:] if given.profile == STRICT else words
