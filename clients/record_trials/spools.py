@@ -10,8 +10,8 @@ import time
 from pathlib import Path
 
 import sftp3
-from record_trials.steps import (INIT, RECORD, STUB, TOP, close, errors, leave, meet, open_session, receive, receive_within,
-                                 stubs)
+from record_trials.steps import (INIT, RECORD, STUB, TOP, close, errors, leave, meet, open_session, receive,
+                                 receive_within, stubs)
 from sftp3 import request
 from trials.processes import SOON, ended, executable, make_user, remove_user, run, wait_until
 
