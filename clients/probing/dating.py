@@ -69,5 +69,50 @@ def dated_folder(p):
     yield p.ask("STAT", path)
 
 
+def dated_sync(p):
+    """Times that are set through a handle behind a WRITE stay when the file is synced and closed, as by `put -p -f`,
+    and when its path gets an owner; both times may be the same."""
+    path, step = p.blank(b"dated-sync"), None
+    for flags in (WRITE | CREAT | TRUNC, READ | WRITE):
+        step = p.ask("OPEN", path, flags, {})
+        yield step
+        yield p.ask("WRITE", step.opened(), 0, Content(p.random, 700).at(0, 700))
+        yield p.ask("FSETSTAT", step.opened(), times(p))
+        yield p.ask("FSYNC", step.opened())
+        yield p.ask("FSTAT", step.opened())
+        yield p.ask("CLOSE", step.opened())
+        yield p.ask("STAT", path)
+    same = times(p)["times"][1]
+    yield p.ask("SETSTAT", path, {"times": (same, same)})
+    yield p.ask("LSTAT", path)
+    yield p.ask("SETSTAT", path, {"owner": (7, 8)})
+    yield p.ask("STAT", path)
+    yield p.ask("SETSTAT", path, {"owner": (0, 0)})
+    yield p.ask("STAT", path)
+
+
+def dated_whole(p):
+    """All attributes at once, as of a file that a client has looked at before, by path and by handle; a directory with
+    the permissions that it shows; and times by a link, which leads to the file."""
+    path, folder, link = p.blank(b"dated-whole"), p.blank(b"dated-whole.d"), p.blank(b"dated-whole.link")
+    yield from upload(p, path, Content(p.random, 500))
+    yield p.ask("SETSTAT", path, {"size": 400, "owner": (5, 6), "permissions": 0o100640, **times(p)})
+    yield p.ask("STAT", path)
+    step = p.ask("OPEN", path, READ | WRITE, {})
+    yield step
+    yield p.ask("FSETSTAT", step.opened(), {"size": 300, "owner": (7, 8), "permissions": 0o100604, **times(p)})
+    yield p.ask("FSTAT", step.opened())
+    yield p.ask("CLOSE", step.opened())
+    yield p.ask("MKDIR", folder, {})
+    yield p.ask("SETSTAT", folder, {"owner": (5, 6), "permissions": 0o40750, **times(p)})
+    yield p.ask("STAT", folder)
+    yield p.ask("SYMLINK", path[1:], link)
+    yield p.ask("SETSTAT", link, times(p))
+    yield p.ask("STAT", link)
+
+
 # Each session has one of them: as in `planner.PERIODS`.
 PERIODS = [("transfers", dated_file, 3, 1), ("transfers", dated_upload, 3, 2), ("transfers", dated_folder, 3, 0)]
+
+# These come apart from the others, since the times of one thing are followed at a time.
+MORE = [("transfers", dated_sync, 7, 2), ("transfers", dated_whole, 7, 6)]

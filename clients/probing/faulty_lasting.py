@@ -35,6 +35,8 @@ class sound(planted.Bug):
         # the requests by their ids; what is open; renames that were done, and sizes that were set; how long files were
         self.asked, self.opened, self.renamed, self.sizes, self.lengths = {}, {}, [], {}, {}
         self.replaced = set()
+        # whether this is the second session; what was open to be written when the first one ended, by its path
+        self.is_again, self.was_open = False, set()
         # the entries at the start and at the end of the session, by their paths
         self.before, self.after = {}, {}
 
@@ -324,6 +326,54 @@ class names_behind_thousand(sound):
                 del self.after[path]
 
 
+class removed_open_stays(sound):
+    """A file that was removed while it was open, and was open when the session ended, is there by another name."""
+
+    def lose(self):
+        for path in self.opened.values():
+            new = posixpath.dirname(path or b"/").rstrip(b"/") + b"/.nfs0001"
+            if path is not None and path not in self.after and self.is_free(new):
+                self.after[new] = Entry(new, FILE, b"removed")
+
+
+class Locking(sound):
+    """Refuses some requests of the second session, of what was open when the first one ended."""
+
+    REFUSED: tuple = ()
+
+    def requests(self, packets):
+        return [self.refused(packet) for packet in super().requests(packets)]
+
+    def refused(self, packet):
+        asked = sftp3.decode(packet)
+        is_meant = asked.name in self.REFUSED and clean(asked.fields[0]) in self.was_open \
+            and not (asked.name == "OPEN" and not asked.fields[1] & sftp3.WRITE)
+        return sftp3.request(asked.number, "MKDIR", b"/", {}) if is_meant else packet
+
+    def lose(self):
+        """Nothing is lost."""
+
+
+class left_open_not_written(Locking):
+    """A file that was open to be written when the session ended cannot be opened to be written."""
+
+    REFUSED = ("OPEN",)
+
+
+class left_open_not_moved(Locking):
+    """RENAME of a file that was open to be written when the session ended fails."""
+
+    REFUSED = ("RENAME",)
+
+
+class nothing_is_made(Locking):
+    """MKDIR fails once the server was started again."""
+
+    def refused(self, packet):
+        asked = sftp3.decode(packet)
+        return sftp3.request(asked.number, "MKDIR", b"/", {}) if asked.name == "MKDIR" and self.is_again else packet
+
+
 class all_lost(sound):
     """Nothing that the session changed is kept."""
 
@@ -335,14 +385,20 @@ def main():
     fault, words = planted.named(planted.classes(globals()))
     tree, folder = words
     saved = os.path.join(folder, "saved.tree")
-    is_first = not os.path.exists(saved)
+    is_first, names = not os.path.exists(saved), os.path.join(folder, "open")
     server = fault()
+    server.is_again = not is_first
+    if not is_first:
+        with open(names, "rb") as file:
+            server.was_open = set(file.read().split(b"\0"))
     status = planted.passed(server, [program(), "serve", "--tree", tree if is_first else saved, "--save", saved,
                                      "--no-sync", *fault.OPTIONS])
     if is_first:
         with open(tree, "rb") as before, open(saved, "rb") as after:
             left = server.lost(trees.get(before.read()), trees.get(after.read()))
         trees.write(left, saved)
+        with open(names, "wb") as file:
+            file.write(b"\0".join(path for path in server.opened.values() if path))
     os._exit(status)
 
 

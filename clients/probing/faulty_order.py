@@ -3,7 +3,7 @@ and requests whose bytes come apart."""
 import posixpath
 
 import sftp3
-from probing.faulty import LOOKS, MOVES, Fault, Overtaking, clean, refused, sets_size
+from probing.faulty import LOOKS, MOVES, Fault, Overtaking, clean, paths_of, refused, sets_size
 
 
 class Pair(Overtaking):
@@ -233,3 +233,42 @@ class head_apart_fails(Apart):
 
     def meant(self, count):
         return 4 <= count < 9
+
+
+class ListedIn(Pair):
+    """A listing of a directory is begun before a request that changes its names and came just before."""
+
+    SECOND = ("OPENDIR",)
+
+    def meet(self, first, second):
+        return clean(second.fields[0]) in {posixpath.dirname(path) for path in paths_of(first)}
+
+
+class listing_overtakes_opening(ListedIn):
+    """An OPENDIR is done before an OPEN with CREAT in the directory that came just before it."""
+
+    FIRST = ("OPEN",)
+
+    def meet(self, first, second):
+        return bool(first.fields[1] & sftp3.CREAT) and super().meet(first, second)
+
+
+class listing_overtakes_set(ListedIn):
+    """An OPENDIR is done before a SETSTAT in the directory that came just before it."""
+
+    FIRST = ("SETSTAT",)
+
+
+class target_overtakes_replacing(AtNewPlace):
+    """A READLINK is done before the RENAME or posix-rename of a link to its path that came just before it."""
+
+    FIRST, SECOND = MOVES, ("READLINK",)
+
+
+class rename_overtakes_removal(Pair):
+    """A RENAME to a path is done before the REMOVE of what is there that came just before it."""
+
+    FIRST, SECOND = ("REMOVE",), ("RENAME",)
+
+    def meet(self, first, second):
+        return clean(second.fields[1]) == clean(first.fields[0])

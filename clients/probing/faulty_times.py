@@ -145,3 +145,26 @@ class listed_times(Timed):
         items = [(name, long, {**given, "times": (given["times"][0],) * 2} if "times" in given else given)
                  for name, long, given in sftp3.names_in(reply)]
         return [with_names(reply, items)]
+
+
+class sync_touches(Touching):
+    """FSYNC sets the time of modification, as where WRITEs wait in a buffer until then."""
+
+    def ask(self, asked):
+        return [asked] + ([self.touched("FSETSTAT", asked.handle())] if asked.name == "FSYNC" else [])
+
+
+class times_alike_lost(Timed):
+    """SETSTAT and FSETSTAT of two times that are the same set none."""
+
+    def alter(self, asked):
+        if sets_times(asked) and len(set(asked.fields[1]["times"])) == 1:
+            del asked.fields[1]["times"]
+
+
+class owner_touches(Touching):
+    """SETSTAT of an owner sets the time of modification."""
+
+    def ask(self, asked):
+        is_meant = asked.name == "SETSTAT" and asked.fields[1].keys() == {"owner"}
+        return [asked] + ([self.touched("SETSTAT", asked.fields[0])] if is_meant else [])

@@ -161,27 +161,49 @@ class Looking:
         for places in found:
             yield [self.ask("LSTAT", path(place)) for place in places[1:3]]
 
+    def changes(self):
+        """What was left open may be written, moved and removed, and its path taken by something else."""
+        model = self.left.model
+        opened = (one.path for one in self.left.opened.values() if one.path.startswith(LEFT_OPEN))
+        name = next((one for one in opened if model.at(model.walk(one, False))), None)
+        if name is None:
+            return
+        moved = next(free_names(model))
+        step = self.ask("OPEN", name, sftp3.WRITE, {})
+        yield [step, self.ask("WRITE", step.opened(), len(BYTES), BYTES), self.ask("CLOSE", step.opened()),
+               self.ask("LSTAT", name)]
+        yield [self.ask("RENAME", name, moved), self.ask("LSTAT", moved), self.ask("REMOVE", moved),
+               self.ask("MKDIR", name, {}), self.ask("LSTAT", name), self.ask("RMDIR", name)]
+
     def parts(self):
         """All steps, those together that hang on each other."""
-        return itertools.chain(self.things(), self.links(), self.listings(), self.files(), self.pairs())
+        return itertools.chain(self.things(), self.links(), self.listings(), self.files(), self.pairs(), self.changes())
 
 
 def path(place):
     return b"/" + b"/".join(place)
 
 
+def free_names(model):
+    """Paths at which nothing is, one after the other."""
+    names = (LEFT_OPEN + b"-%d" % number for number in itertools.count(1))
+    return (name for name in names if model.walk(name, False) not in model.places)
+
+
 def last_words(model, numbers):
-    """What the session does last, in parts: it leaves files open, a new one and one that is there already, and sets the
-    times of another."""
+    """What the session does last, in parts: it leaves files open, a new one, a new one that it removes, and one that is
+    there already; and it sets the times of another."""
     def ask(name, *fields):
         return Step(next(numbers), name, list(fields))
 
     def left_open(name, flags, data):
         step = ask("OPEN", name, sftp3.WRITE | flags, {})
         return [step, ask("WRITE", step.opened(), 0, data)]
-    names = (LEFT_OPEN + b"-%d" % number for number in itertools.count(1))
-    new = next(name for name in names if model.walk(name, False) not in model.places)
+    new, removed = itertools.islice(free_names(model), 2)
     yield left_open(new, sftp3.CREAT | sftp3.EXCL, BYTES)
+    removal = ask("REMOVE", removed)
+    removal.tags |= {"removed-file"}
+    yield left_open(removed, sftp3.CREAT | sftp3.EXCL, BYTES) + [removal]
     files = list({model.at(place).number: place for place in model.of_kind(FILE) if len(place) == 1}.values())
     if files:
         yield left_open(path(files[0]), 0, b"left open")

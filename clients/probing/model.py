@@ -71,6 +71,16 @@ class Model:
         return {place: len(names) for place, names in self.names_by_directory().items()
                 if names != self.names_before.get(place)}
 
+    def unchanged_directories(self):
+        """The places of the other directories, each with how many names it has."""
+        changed = self.changed_directories()
+        return [(place, len(names)) for place, names in self.names_by_directory().items() if place not in changed]
+
+    def unchanged_files(self):
+        """A place of each file that was not written, with its size."""
+        by_number = {self.at(place).number: place for place in self.of_kind(FILE)}
+        return [(place, self.sizes[number]) for number, place in by_number.items() if number not in self.written]
+
     def at(self, place):
         return self.places.get(place)
 

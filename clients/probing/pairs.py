@@ -14,6 +14,11 @@ def of_places(p):
     yield from each_of(p, OF_PLACES)
 
 
+def of_names(p):
+    """The same of those in which names are made, and then listed, or taken for others."""
+    yield from each_of(p, OF_NAMES)
+
+
 def each_of(p, pairs):
     pairs = [pair for pair, feature in pairs.items() if feature not in p.skip]
     for pair in p.random.sample(pairs, len(pairs)):
@@ -211,6 +216,34 @@ def open_and_replace(p):
         yield p.ask("CLOSE", one.opened())
 
 
+def make_and_list(p):
+    """A file that OPEN makes in a directory, or permissions that it gets, and then a listing of that."""
+    top = p.blank(b"pair.top")
+    yield p.ask("MKDIR", top, {})
+    fresh = p.ask("OPEN", top + b"/new", WRITE | CREAT, {})
+    yield fresh
+    yield from listing(p, top, 1)
+    yield p.ask("SETSTAT", top + b"/new", {"permissions": 0o604})
+    yield from listing(p, top, 1)
+    yield p.ask("CLOSE", fresh.opened())
+
+
+def remove_and_put(p):
+    """A file is removed, and another gets its path, as where there is no posix-rename; a link is replaced, and read."""
+    path, _, step = yield from filled(p)
+    other, links = p.blank(b"pair.other"), [p.blank(b"pair.link") for _ in range(2)]
+    fresh = p.ask("OPEN", other, WRITE | CREAT, {})
+    yield fresh
+    yield p.ask("REMOVE", path)
+    yield p.ask("RENAME", other, path)
+    for one in (fresh, step):
+        yield p.ask("CLOSE", one.opened())
+    for link, target in zip(links, (b"old", b"new")):
+        yield p.ask("SYMLINK", target, link)
+    yield p.ask("POSIX-RENAME", links[1], links[0])
+    yield p.ask("READLINK", links[0])
+
+
 # The pairs, each with the feature that it needs, if it does.
 PAIRS = {
     set_and_set: None, cut_and_read: None, link_and_remove: None, rename_and_look: None, change_and_list: None,
@@ -219,3 +252,5 @@ PAIRS = {
 }
 
 OF_PLACES = {rename_and_make: None, rename_and_set: None, open_and_replace: None}
+
+OF_NAMES = {make_and_list: None, remove_and_put: None}

@@ -13,7 +13,7 @@ import itertools
 import random
 
 import sftp3
-from probing import crossings, dating, features, meetings, pairs, refusals, renewals, scenes, transfers
+from probing import crossings, dating, features, meetings, pairs, refusals, remains, renewals, scenes, transfers
 from probing.transfers import listing
 from probing.model import DIRECTORY, FILE, LINK, Model, apply
 from probing.plans import Handle, Step
@@ -291,20 +291,25 @@ def ids_of(seed):
     return itertools.chain(range(first, 2 ** 32), range(first))
 
 
+# The scenes that come behind all others, each row by a planner of its own, whose random numbers its word is for.
+BEHIND = [("further", crossings.PERIODS), ("dated", dating.PERIODS), ("remaining", remains.PERIODS),
+          ("dated again", dating.MORE)]
+
+
 def plan(seed, tree, count, skip=()):
     """The steps of a session: so many of small scenes, besides those of large ones and of the end."""
     numbers = ids_of(seed)
-    small, large, further, dated = (Planner(word, tree, skip, numbers)
-                                    for word in (seed, f"large {seed}", f"further {seed}", f"dated {seed}"))
+    small, large, *others = (Planner(word, tree, skip, numbers)
+                             for word in (seed, f"large {seed}", *(f"{word} {seed}" for word, _ in BEHIND)))
     between, steps = large.large(large_scenes(seed, large.random)), []
     for step in small.small(count):
         steps.append(step)
         steps += itertools.islice(between, large.random.randint(0, 8))
     steps += between
-    steps += further.large(of_seed(seed, crossings.PERIODS))
-    steps += dated.large(of_seed(seed, dating.PERIODS))
-    for planner in (large, small, further, dated):
-        steps += planner.large([("read-back", read_back)])
+    for planner, (_, periods) in zip(others, BEHIND):
+        steps += planner.large(of_seed(seed, periods))
+    for planner in (large, small, *others):
+        steps += planner.large([("read-back", all_back if planner is small else read_back)])
     return steps
 
 
@@ -377,6 +382,26 @@ def read_back(p):
         yield from listing(p, b"/" + b"/".join(place), count)
     for place in sorted(p.model.of_kind(LINK))[:MOST_EMPTY]:
         yield p.ask("READLINK", b"/" + b"/".join(place))
+
+
+# Of the files and directories that were there at the start, and that no request was to change, so many are looked at,
+# if a file has no more bytes, and a directory no more names.
+MOST_KEPT, KEPT_BYTES, KEPT_NAMES = 10, 100_000, 200
+
+
+def all_back(p):
+    """The same, and what has to be as it was: a request that was refused may have changed it."""
+    yield from read_back(p)
+    for place, size in kept(p, p.model.unchanged_files(), KEPT_BYTES):
+        yield from reading(p, b"/" + b"/".join(place), size)
+    for place, count in kept(p, p.model.unchanged_directories(), KEPT_NAMES):
+        yield from listing(p, b"/" + b"/".join(place), count)
+
+
+def kept(p, found, most):
+    """Some of these places, which come with sizes, that are not too large."""
+    fit = sorted(one for one in found if 0 < one[1] <= most)
+    return p.random.sample(fit, min(len(fit), MOST_KEPT))
 
 
 def written(model):

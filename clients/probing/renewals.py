@@ -222,7 +222,8 @@ def listing_again(p):
 ALIKE = [
     b"Case", b"case", b"\xc3\xa9t\xc3\xa9", b"e\xcc\x81te\xcc\x81", b"l" * 254 + b"1", b"l" * 254 + b"2", b"a",
     b"a#b?c", b"v", b"v;1", b"two blanks", b"two  blanks", b"ends..", b"aux.c", b"long.html", b"long.htm",
-    b"in\\side", b"*",
+    b"in\\side", b"tool", b"tool.exe", b"file", b"\xef\xac\x81le", b"a&b", b"a&amp;b", b"notes", b"notes~", b"x.tmp",
+    b"x.filepart", b"*",
 ]
 
 
@@ -242,6 +243,7 @@ def alike_names(p):
     for name in ALIKE[:-1]:
         yield p.ask("LSTAT", top + b"/" + name)
         yield p.ask("REMOVE", top + b"/" + name)
+        yield p.ask("LSTAT", top + b"/" + name, cause="NoEntry")
     path = p.blank(b"~tilde")
     yield from upload(p, path, Content(p.random, 40))
     yield p.ask("STAT", path if p.model.home else path[1:])

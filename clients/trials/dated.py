@@ -70,7 +70,8 @@ SESSIONS = [
     ("FSTAT through one of behind", SETTING + OPEN + seen(9, "FSTAT", b"h", OTHER), MODIFICATION),
     ("READ leaves the time of access open", OPEN + SETTING
      + [ask(3, "READ", b"h", 0, 9), reply(3, "DATA", b"abc"), *seen(9, "STAT", b"/d/f", (5, SET[1]))], None),
-    ("both the same", done(1, "SETSTAT", b"/d/f", {"times": SET[:1] * 2}) + seen(9, "STAT", b"/d/f", SET[:1] * 2), None),
+    ("both the same", done(1, "SETSTAT", b"/d/f", {"times": SET[:1] * 2}) + seen(9, "STAT", b"/d/f", SET[:1] * 2),
+     None),
     ("fsync does not modify", OPEN + done(1, "FSETSTAT", b"h", {"times": SET}) + done(3, "FSYNC", b"h") + STAT,
      MODIFICATION),
     ("READ does not modify", OPEN + SETTING + [ask(3, "READ", b"h", 0, 9), reply(3, "DATA", b"abc")] + STAT,
