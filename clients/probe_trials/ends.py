@@ -117,14 +117,14 @@ def try_stop_of_audits(steps, folder):
 
 
 def try_times(steps, folder):
-    """A timeout a seed, no more: a session ends with the first, and none is played again. And servers that are late are
-    not blamed."""
+    """A timeout a seed, no more: after a look at the root, a session ends with the first, and none is played again. And
+    servers that are late are not blamed."""
     starts = os.path.join(folder, "late.starts")
     words = ["--seeds", "1-8", "--reset", f"echo >>{starts}", "--timeout", "2", "--budget", "0", "--keep",
              os.path.join(folder, "late")]
     status, said, took = probe(*words, "--in-flight", "1", "--", *misbehaving("looks-unanswered"))
     steps.check(f"requests without replies cost a timeout a seed: 8 seeds took {took:.0f} seconds",
-                status == 1 and took >= 8 * 2 and os.path.getsize(starts) == 8, (os.path.getsize(starts), said))
+                status == 1 and took >= 8 * 2 and os.path.getsize(starts) == 1 + 8, (os.path.getsize(starts), said))
     status, said, took = probe("--seeds", "1-2", "--requests", "20", "--", *misbehaving("slow"))
     steps.check("a server that takes 100 ms for a reply is accepted", (status, said.startswith("accepted: 2 ")) ==
                 (0, True), said)
@@ -137,11 +137,12 @@ def try_budget(steps, folder):
     status, said, playing = probe(*words, "--budget", "0", "--", *misbehaving("fifth-refusal"))
     kinds = said.count("not shrunk: no time was left")
     steps.check("--budget 0: all is kept whole, and says so", status == 1 and kinds > 3 and
-                "shrunk to" not in said, said)
+                "shrunk to" not in said and "a longer --budget" not in said, said)
     status, said, took = probe("--seeds", "1-10", "--keep", os.path.join(folder, "more"), "--budget", "1", "--",
                                *misbehaving("fifth-refusal"))
     steps.check(f"--budget 5 ends in time: {took:.0f} seconds, and {playing:.0f} without shrinking",
                 status == 1 and took < 2 * playing + 25, said)
+    steps.check("a line says that a longer one shortens them", "a longer --budget than 1 " in said, said)
     first = said.find("seed 1: ")
     steps.check("differences are printed as they come", 0 <= first < said.find("\n1. "), said)
 

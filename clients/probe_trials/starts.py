@@ -36,7 +36,7 @@ def try_start(steps, folder):
                 and "the port is taken" in said, said)
     reset = os.path.join(folder, "reset.sh")
     with open(reset, "w", encoding="ascii") as file:
-        file.write(f"echo >>{folder}/resets; [ $(wc -l <{folder}/resets) -lt 3 ] || {{ echo no more >&2; exit 5; }}\n")
+        file.write(f"echo >>{folder}/resets; [ $(wc -l <{folder}/resets) -lt 4 ] || {{ echo no more >&2; exit 5; }}\n")
     status, said, _ = probe(*words, "--budget", "0", "--keep", os.path.join(folder, "reset"), "--reset", f"sh {reset}",
                             "--", *misbehaving("fifth-refusal"))
     steps.check("a reset that fails: status 3, and what was found is reported", status == 3 and "--reset ended with "

@@ -99,6 +99,13 @@ def advice(found, auditor):
     return [line for line in said if line]
 
 
+def of_budget(found, seconds):
+    """What to say if these seconds did not suffice to shrink the groups; None if they did, or if none were given."""
+    count = sum(group.partly or group.whole == groups.NO_TIME for group in found)
+    return f"{count} of {len(found)} kinds could be shorter: play again with a longer --budget than {seconds:g} " \
+        "seconds" if count and seconds else None
+
+
 def of_profile(found, auditor):
     """What to say of a strict audit whose differences are mostly departures of a profile; None if there is nothing."""
     known = [names for names in map(departures, found) if names]

@@ -384,10 +384,11 @@ class no_end(Healthy):
 
 
 class now_and_then(Healthy):
-    """In each fifth session the 12th request gets a wrong reply. MISBEHAVING_COUNT names the file of the count."""
+    """In each fifth session, the first after the probe's look at the root, the 12th request gets a wrong reply.
+    MISBEHAVING_COUNT names the file of the count."""
 
     def version(self, packet):
-        self.wrong = sessions_before() % 5 == 0
+        self.wrong = sessions_before() % 5 == 1
         return packet
 
     def reply(self, asked, packet):

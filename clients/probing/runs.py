@@ -1,4 +1,5 @@
 """One run of the probe: plays the sessions, shrinks what differs, and reports."""
+import itertools
 import os
 import time
 from contextlib import suppress
@@ -132,6 +133,8 @@ def why_failed(error):
     """Why no more is played."""
     if isinstance(error, bounds.Misbehaves):
         return "the server misbehaved"
+    if isinstance(error, options.Wrong):
+        return "the server has other files than the tree"
     usual = isinstance(error, (NotStarted, verdicts.Trouble, OSError))
     return "the server or the program could not be started" if usual else "the probe itself failed"
 
@@ -170,8 +173,9 @@ class Run:
         players = self.workers(folder, server, auditor)
         self.pool = limits.Pool(players)
         self.until = limits.Until(halt, given.patience)
-        if not is_known and (why := ownfiles.trouble(server, players[0], self.tree, halt)):
-            raise options.Wrong(why)
+        self.root = ownfiles.Root(server, self.tree, self.until)
+        if given.look_first is None:
+            self.root.look_first(players[0])
         self.playing = limits.Halt(self.until)
         self.groups, self.tally, self.progress = groups.Groups(), limits.Tally(), limits.Progress()
 
@@ -220,9 +224,13 @@ class Run:
             return self.auditor.lacks.steps(self.recorded if self.given.session else self.planned(seed, skip))
         self.tally.planned = len(numbers)
 
-        def task_of(number):
-            return lambda worker: Plan(self.given, number, steps_of(number), self.tree, self.playing).play(worker)
-        return map(task_of, numbers)
+        def task_of(place, number):
+            def task(worker):
+                if place == 1:
+                    self.root.look_again(worker)
+                return Plan(self.given, number, steps_of(number), self.tree, self.playing).play(worker)
+            return task
+        return map(task_of, itertools.count(), numbers)
 
     def planned(self, seed, skip):
         """The steps of a seed, and those that look, where that can be, at what they leave."""
@@ -312,7 +320,7 @@ class Run:
         wrong = self.write(found)
         for group in found:
             reports.print_group(group.number, group)
-        for advice in hints.advice(found, self.auditor):
+        for advice in self.advice(found):
             program.tell(f"probe: {advice}")
         vain = len(self.tally.played) - self.tally.sessions
         if vain:
@@ -323,6 +331,11 @@ class Run:
             program.say(reports.summary(self.tally, found) + self.again.told())
         if wrong:
             raise wrong[0]
+
+    def advice(self, found):
+        """What to do otherwise in the next run."""
+        budget = None if self.until.is_set() else hints.of_budget(found, self.given.budget)
+        return [line for line in (*hints.advice(found, self.auditor), self.root.advice(), budget) if line]
 
     def run(self):
         """Gives the exit status."""
