@@ -283,8 +283,8 @@ def take_room(field, name):
 
 
 # Of which the whole session is no more than what was judged.
-KEPT = SimpleNamespace(session=SimpleNamespace(errors=b"", in_flight=1, end=None, ending=str, records=[]), seed=0,
-                       records=[])
+KEPT = SimpleNamespace(session=SimpleNamespace(errors=b"", in_flight=1, cut=None, is_together=False, end=None,
+                                               ending=str, records=[]), seed=0, again=None, records=[])
 BY_NAME = {
     "sftpv3-record": record,
     "two names": lambda field, name: ways.is_one_file(name, field.put("other", b"")),
@@ -292,7 +292,7 @@ BY_NAME = {
     "sftpv3-serve": take_room,
     "sftpv3-probe": lambda _, name: options.can_write("--report", name),
     "sftpv3-probe --keep": lambda _, name: options.can_write("--keep", name),
-    "what is kept": lambda _, name: reports.keep_server(os.path.dirname(name), KEPT),
+    "what is kept": lambda _, name: reports.keep_server(os.path.dirname(name), KEPT, []),
 }
 
 

@@ -574,13 +574,14 @@ def many_names_with_one_beginning_take_all_time(field):
 
 @attack("user")
 def an_empty_record_has_another_name(field):
-    """What is said of a record, and kept beside it, has its name, be it empty."""
+    """What is said of a record, and kept beside it, has its name, be it empty or no record."""
     nights, name = Nights(field, field.user), record_name(field.user)
-    nights.put(name, b"", field.user.pw_uid)
-    yield from wrong(nights.run(), 1, f"  sftpv3: {name} is empty", without=["/proc/"])
-    for kept in nights.kept("refused"):
-        if b"/proc/" in field.read(kept):
-            yield f"{kept} names a descriptor"
+    for data, said in ((b"", "not judged: nothing was recorded"), (b"x", "sftpv3: transcript: record 0: Magic")):
+        nights.put(name, data, field.user.pw_uid)
+        yield from wrong(nights.run(), 1, f"{name}: {said}", without=["/proc/"])
+    verdicts = [it for it in nights.kept("refused") if it.endswith(".verdict")]
+    if len(verdicts) != 1 or b"/proc/" in field.read(verdicts[0]):
+        yield f"{verdicts} are kept, or name a descriptor"
 
 
 @attack("user", "mount")
