@@ -43,24 +43,18 @@ def clone(where):
     return where.shell("git clone -q $ROOM/origin clone && git -C clone -c safe.directory='*' status --short")
 
 
-def make(where):
-    return where.shell("cd clone && make -s && make -s clean && make -s && test $(wc -l <out/all) = 61")
+def by_shell(script):
+    """An act of a shell below a mount of sshfs."""
+    return lambda where: where.shell(script)
 
 
-def five_hundred(where):
-    return where.shell("mkdir many && for n in $(seq 500); do echo $n >many/$n; done && ls -l many >$ROOM/listed && "
-                       "for n in $(seq 3 7 500); do mv many/$n many/moved-$n; done && rm many/*5")
-
-
-def sizes(where):
-    return where.shell("for n in 1 4095 4096 4097 32768 65537 1000000 16777216 20000000; do "
-                       "dd if=/dev/zero bs=$n count=1 of=size-$n status=none && truncate -s 5000 size-$n && "
-                       "truncate -s $((n / 2)) size-$n; done; truncate -s 3000000 hole && echo end >>hole")
-
-
-def copies(where):
-    return where.shell("mkdir from && echo a >from/a && ln -s a from/link && chmod 640 from/a && cp -r from to && "
-                       "cp from/a b && cp b from/a && chmod -R go-rwx from")
+FIVE_HUNDRED = ("mkdir many && for n in $(seq 500); do echo $n >many/$n; done && ls -l many >$ROOM/listed && "
+                "for n in $(seq 3 7 500); do mv many/$n many/moved-$n; done && rm many/*5")
+SIZES = ("for n in 1 4095 4096 4097 32768 65537 1000000 16777216 20000000; do "
+         "dd if=/dev/zero bs=$n count=1 of=size-$n status=none && truncate -s 5000 size-$n && "
+         "truncate -s $((n / 2)) size-$n; done; truncate -s 3000000 hole && echo end >>hole")
+COPIES = ("mkdir from && echo a >from/a && ln -s a from/link && chmod 640 from/a && cp -r from to && "
+          "cp from/a b && cp b from/a && chmod -R go-rwx from")
 
 
 def special_files(where):
@@ -72,10 +66,6 @@ def special_files(where):
 def chgrp(where):
     ran = where.batch("mkdir grouped", f"chgrp {os.stat(where.real).st_gid} grouped", "ls -la")
     return ran.returncode == 0, ran.stdout
-
-
-def chgrp_by_sshfs(where):
-    return where.shell("echo g >g && chgrp $(stat -c %g .) g && ls -l g")
 
 
 def link_owner(where):
@@ -93,10 +83,6 @@ def denied(where):
     """Requests in a directory that root has made, which the user may only look at."""
     ran = where.batch("-mkdir of-root/mine", "-get of-root/secret", "-rm of-root/secret", "ls of-root", "mkdir allowed")
     return ran.returncode == 0 and "ermission denied" in ran.stdout, ran.stdout
-
-
-def copy_as(where):
-    return where.shell("mkdir kept && echo k >kept/k && cp -a kept kept-too")
 
 
 def cut(where):
@@ -120,10 +106,6 @@ def outside(where):
     return ran.returncode == 0, ran.stdout
 
 
-def large(where):
-    return where.shell("truncate -s 70000000 large")
-
-
 @dataclass(frozen=True)
 class Session:
     """What a client does: a name, the act, and the program that it needs besides the client.
@@ -139,12 +121,17 @@ class Session:
 
 
 ORDINARY = (Session("special files by sftp", special_files), Session("chgrp by sftp", chgrp),
-            Session("a clone over sshfs", clone, "git"), Session("make", make, "git"),
-            Session("500 files", five_hundred), Session("sizes up to 20 MB", sizes), Session("a file of 70 MB", large),
-            Session("cp -r and chmod -R", copies), Session("cp -a", copy_as),
+            Session("a clone over sshfs", clone, "git"),
+            Session("make", by_shell("cd clone && make -s && make -s clean && make -s && test $(wc -l <out/all) = 61"),
+                    "git"),
+            Session("500 files", by_shell(FIVE_HUNDRED)), Session("sizes up to 20 MB", by_shell(SIZES)),
+            Session("a file of 70 MB", by_shell("truncate -s 70000000 large")),
+            Session("cp -r and chmod -R", by_shell(COPIES)),
+            Session("cp -a", by_shell("mkdir kept && echo k >kept/k && cp -a kept kept-too")),
             *(Session(f"{name} over sshfs", act, program) for name, program, act in EDITORS))
 
-ALONE = (Session("chgrp by sshfs", chgrp_by_sshfs, by="keep-owner", words=("NotAllowed",)),
+ALONE = (Session("chgrp by sshfs", by_shell("echo g >g && chgrp $(stat -c %g .) g && ls -l g"), by="keep-owner",
+                 words=("NotAllowed",)),
          Session("chown -h by sftp", link_owner, by="lsetstat", words=("NotModelled",)),
          Session("copy by sftp", copy_data, by="copy-data", words=("NotModelled",)),
          Session("a refused request", denied, by="posix-user", words=("NotAllowed",)),
@@ -222,6 +209,12 @@ def said(count):
     return lines
 
 
+def reload():
+    """Has sshd read its configuration again."""
+    run(["service", "ssh", "reload"])
+    time.sleep(0.5)
+
+
 def serve_lies(option):
     """From now on, the last byte of each READ is another one. `option` is one more of the recorder."""
     for name in ("probing", "sftp3"):
@@ -231,8 +224,7 @@ def serve_lies(option):
                   rf"\1 {option}\2 /usr/bin/python3 -I {LIES}/probing/planted.py wrong_byte \3 -u 022",
                   CONFIG.read_text())
     CONFIG.write_text(text)
-    run(["service", "ssh", "reload"])
-    time.sleep(0.5)
+    reload()
 
 
 def try_live(steps, where):
@@ -263,8 +255,7 @@ def try_forced(steps, where, nightly):
     before = CONFIG.read_text()
     words = re.search(r"(?m)^Subsystem\s+sftp\s+(.*)$", before)[1]
     CONFIG.write_text(f"{before}Match User {where.user}\n    ForceCommand {words}\n")
-    run(["service", "ssh", "reload"])
-    time.sleep(0.5)
+    reload()
     ran = where.batch(f"put {where.large} forced", "get forced back")
     if steps.check("ForceCommand: a session does its work", ran.returncode == 0, ran.stdout):
         status, said = nightly()
@@ -284,8 +275,7 @@ def try_forced(steps, where, nightly):
         steps.check("ForceCommand: scp without SFTP is told so, and does not wait", ran.returncode not in (0, 124) and
                     "only SFTP is served here" in ran.stdout, f"{ran.returncode}: {ran.stdout}")
     CONFIG.write_text(before)
-    run(["service", "ssh", "reload"])
-    time.sleep(0.5)
+    reload()
 
 
 def try_no_shell(steps, where):
@@ -304,8 +294,7 @@ def try_limits(steps, user):
     line = page.lines_of("limits", page.SECURITY).strip()
     run(["sftpv3", "blank", "--mode", "0644", "/srv/tree"])
     CONFIG.write_text(re.sub(r"(?m)^Subsystem\s+sftp\s.*$", lambda _: line, CONFIG.read_text()))
-    run(["service", "ssh", "reload"])
-    time.sleep(0.5)
+    reload()
     ran = run(["sftp", "-q", *OPTIONS, "-b", "-", f"{user}@127.0.0.1"], input=f"mkdir made\n{LIMITS}")
     found = re.findall(r"Max (address space|core file size) +(\d+) +(\d+) ", ran.stdout)
     steps.check("the page's line for limits: the session has them", ran.returncode == 0 and sorted(found) ==

@@ -8,12 +8,13 @@ import shutil
 import subprocess
 import time
 from contextlib import contextmanager
+from pathlib import Path
 
 from attacking import ground
-from attacking.sessions import Session
-from attacking.ground import SECONDS, attack
+from attacking.ground import SECONDS, attack, words_of
 from attacking.recorders import daemon
 from attacking.saving import TOP
+from attacking.sessions import Session
 from probing.program import program
 from trials.other_servers import SFTP_SERVER
 from trials.sshd import Sshd
@@ -86,7 +87,8 @@ def the_recorder_is_opened_through_proc(field):
                 process = client.recorder()
                 if process is None and act is not ground.servers_own_stream:
                     # its files cannot even be listed
-                    process = max(int(it) for it in os.listdir("/proc") if it.isdigit() and is_recorder(it))
+                    process = max(int(it) for it in os.listdir("/proc") if it.isdigit() and
+                                  any(word.endswith(b"/record") for word in words_of(it)))
                 act(client, process, mark.encode())
             except (EOFError, OSError, StopIteration, TypeError):
                 pass
@@ -95,14 +97,6 @@ def the_recorder_is_opened_through_proc(field):
             time.sleep(0.5)
             if not os.path.exists(mark) and b" C REMOVE " not in user.recorded():
                 yield f"{act.__name__}: the file is gone, and the record does not say so"
-
-
-def is_recorder(process):
-    try:
-        with open(f"/proc/{process}/cmdline", "rb") as file:
-            return b"/record\0" in file.read()
-    except OSError:
-        return False
 
 
 @attack("user", "sshd", "ssh", "sftp")
@@ -122,18 +116,15 @@ def what_is_uploaded_runs_before_the_recorder(field):
             user.sftp("pwd\n")
             if shell == "/bin/sh" and os.path.exists(mark):
                 yield "a command of the user ran"
-        shutil.rmtree(field.path("run"))
-        shutil.rmtree(field.path("spool"))
-        for key in ("host", "key"):
+        for key in ("host", "host.pub", "key", "key.pub"):
             os.remove(field.path(key))
-            os.remove(field.path(f"{key}.pub"))
 
 
 @attack("user", "sshd", "ssh", "sftp", "unshare")
 def what_is_uploaded_sets_variables_of_the_recorder(field):
     """~/.pam_environment sets nothing for the shell and the recorder, where PAM is set as the documents have it."""
-    with open(os.path.join(TOP, "docs/OPERATORS.md"), encoding="utf-8") as file:
-        said = re.search(r"(?m)^sed -i '(.*)' /etc/pam.d/sshd$", file.read())
+    page = Path(TOP, "docs/OPERATORS.md").read_text(encoding="utf-8")
+    said = re.search(r"(?m)^sed -i '(.*)' /etc/pam.d/sshd$", page)
     os.mkdir(field.path("pam"))
     changed = field.put("pam/sshd", PAM)
     if said:

@@ -8,9 +8,11 @@ import signal
 import struct
 import subprocess
 import tempfile
-from contextlib import suppress
+import time
+from contextlib import contextmanager, suppress
 from functools import cache
 from importlib import machinery, util
+from pathlib import Path
 
 from probing.program import program
 from recording import ending, temporary
@@ -80,8 +82,43 @@ def script(name):
     return found
 
 
+def environment(**more):
+    """The environment of a script, which is to run the program that is attacked."""
+    return {**os.environ, "SFTPV3": program(), **more}
+
+
+def identity(user, group=None):
+    """The options by which a process starts as this user, in this group alone, or in that of the same number."""
+    return {"user": user, "group": user if group is None else group, "extra_groups": []}
+
+
+def start_as(user, group, function, *words):
+    """Runs a function that never returns in a process of this user, whose number is returned."""
+    child = os.fork()
+    if child == 0:
+        try:
+            os.setgroups([])
+            os.setgid(group)
+            os.setuid(user)
+            function(*words)
+        finally:
+            os._exit(1)
+    return child
+
+
+def stop(child):
+    os.kill(child, signal.SIGKILL)
+    os.waitpid(child, 0)
+
+
+def words_of(process):
+    """The words of the command of a process; none once it has ended."""
+    with suppress(OSError):
+        return Path(f"/proc/{process}/cmdline").read_bytes().split(b"\0")
+    return []
+
+
 def attack(*needs, is_small=False):
-    """Marks a function as an attack."""
     return lambda function: Attack(function, needs, is_small)
 
 
@@ -114,8 +151,6 @@ class Ground:
 
 
 class Field:
-    """The folder of one attack."""
-
     def __init__(self, folder, ground):
         self.folder, self.ground, self.user, self.program = folder, ground, ground.user, ground.program
 
@@ -124,28 +159,40 @@ class Field:
 
     def put(self, name, data, mode=0o644):
         """Writes a file with these permissions, and returns its path."""
+        path = Path(self.path(name))
+        path.write_bytes(data)
+        path.chmod(mode)
+        return str(path)
+
+    def shared(self, name, mode=0o755, owner=0):
+        """Makes a folder of a user with these permissions, and returns its path."""
         path = self.path(name)
-        with open(path, "wb") as it:
-            it.write(data)
+        os.mkdir(path)
         os.chmod(path, mode)
+        os.chown(path, owner, owner)
+        return path
+
+    def theirs(self, path):
+        """Makes something the other user's, and returns its path."""
+        os.chown(path, self.user.pw_uid, self.user.pw_gid, follow_symlinks=False)
         return path
 
     def read(self, name):
-        with open(self.path(name), "rb") as it:
-            return it.read()
+        return Path(self.path(name)).read_bytes()
 
-    def start_as_user(self, function, *words):
-        """Runs a function that never returns in a process of the other user, whose number is returned."""
-        child = os.fork()
-        if child == 0:
-            try:
-                os.setgroups([])
-                os.setgid(self.user.pw_gid)
-                os.setuid(self.user.pw_uid)
-                function(*words)
-            finally:
-                os._exit(1)
-        return child
+    @contextmanager
+    def beside(self, function, *words):
+        """The other user does this, which never ends, as long as the block runs."""
+        child = start_as(self.user.pw_uid, self.user.pw_gid, function, *words)
+        time.sleep(0.3)
+        try:
+            yield
+        finally:
+            stop(child)
+
+    def as_user(self):
+        """The options by which a process starts as the other user."""
+        return identity(self.user.pw_uid, self.user.pw_gid)
 
     def script(self, name):
         """Returns the path of a script of clients/, in a copy that every user can read."""
@@ -166,9 +213,14 @@ class Field:
 
     def run(self, *words, as_user=False, **options):
         """Runs the program to its end, as the other user if so said."""
-        ids = {"user": self.user.pw_uid, "group": self.user.pw_gid, "extra_groups": []} if as_user else {}
+        ids = self.as_user() if as_user else {}
         return subprocess.run([self.program if as_user else program(), *words], capture_output=True, cwd=self.folder,
                               **{"input": b"", "timeout": SECONDS, **ids, **options})
+
+    def call(self, name, *words, **options):
+        """Runs a script of clients/ to its end."""
+        return subprocess.run([os.path.join(CLIENTS, name), *words], cwd=self.folder, capture_output=True,
+                              **{"input": b"", "timeout": SECONDS, "env": environment(), **options})
 
 
 def wrong_status(done, status):

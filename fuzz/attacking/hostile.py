@@ -6,6 +6,8 @@ import select
 import socket
 import struct
 import time
+from contextlib import suppress
+from pathlib import Path
 
 HELLO = b"SFTPSP01\0"
 
@@ -15,17 +17,13 @@ def recorders(known):
     for name in os.listdir("/proc"):
         if not name.isdigit() or name in known:
             continue
-        try:
-            with open(f"/proc/{name}/cmdline", "rb") as file:
-                words = file.read()
-            owner = os.stat(f"/proc/{name}").st_uid
-        except OSError:
-            continue
-        if b"/record\0" in words and owner != os.getuid():
-            known.add(name)
-            yield int(name), owner
-        elif words and b"sh\0-c" not in words:
-            known.add(name)
+        with suppress(OSError):
+            words, owner = Path(f"/proc/{name}/cmdline").read_bytes(), os.stat(f"/proc/{name}").st_uid
+            if b"/record\0" in words and owner != os.getuid():
+                known.add(name)
+                yield int(name), owner
+            elif words and b"sh\0-c" not in words:
+                known.add(name)
 
 
 def pipes_for_transcripts(folder, template, told):
@@ -104,11 +102,9 @@ def small_batches(name):
         link.setblocking(False)
     while True:
         for link in links:
-            try:
+            with suppress(OSError):
                 link.send(batches)
                 link.recv(1 << 20)
-            except OSError:
-                pass
         time.sleep(0.001)
 
 
@@ -117,16 +113,12 @@ def hellos(name):
     while True:
         links = []
         for _ in range(300):
-            try:
+            with suppress(OSError):
                 links.append(connected(name))
                 links[-1].sendall(HELLO)
-            except OSError:
-                pass
         for link in links:
-            try:
+            with suppress(OSError):
                 link.recv(8)
-            except OSError:
-                pass
             link.close()
 
 
@@ -150,11 +142,9 @@ def lingering():
     link.setsockopt(socket.SOL_SOCKET, socket.SO_SNDBUF, 4096)
     link.connect(door.getsockname())
     link.setblocking(False)
-    try:
+    with suppress(BlockingIOError):
         while True:
             link.send(bytes(1 << 16))
-    except BlockingIOError:
-        pass
     link.setblocking(True)
     link.setsockopt(socket.SOL_SOCKET, socket.SO_LINGER, struct.pack("ii", 1, 8))
     return link, door

@@ -8,11 +8,11 @@ import subprocess
 import sys
 import tempfile
 from contextlib import contextmanager, suppress
+from pathlib import Path
 from unittest import mock
 
-from attacking.ground import CLIENTS, SECONDS, attack
+from attacking.ground import CLIENTS, SECONDS, attack, environment, wrong_status
 from attacking.servers import HELLO, built
-from probing.program import program
 
 sys.path.append(os.path.join(CLIENTS, "servers"))
 import rooted  # noqa: E402 (its folder is not searched before)
@@ -104,12 +104,11 @@ UNLINK, SESSION, USER = 9, -3, -4
 
 def played(field, server, *words, folder=None, **streams):
     """Plays a session with a server whose standard streams are these. Returns how it ended."""
-    environment = {**os.environ, "SFTPV3": program(), "TMPDIR": folder or field.folder}
     given = {"stdout": subprocess.PIPE, "stderr": subprocess.PIPE, **streams}
     if "stdin" not in given:
         given["input"] = HELLO
     return subprocess.run([field.script("servers/any"), field.blank(), server, *words], timeout=SECONDS,
-                          env=environment, **given)
+                          env=environment(TMPDIR=folder or field.folder), **given)
 
 
 @attack("user", "cc")
@@ -148,19 +147,15 @@ def a_server_takes_the_null_device(field):
 @attack("user", "cc", "ldd")
 def a_program_sees_the_environment_of_root(field):
     """What a program names, and runs where its libraries are looked for, sees no environment of root's."""
-    told = field.put("told", b"")
-    os.chmod(told, 0o666)
+    told = field.put("told", b"", 0o666)
     keeper = built(field, "keeper.so", KEEPER, "-shared", "-fPIC", f'-DTOLD="{told}"')
     server = built(field, "server", SERVER, f"-Wl,--audit={keeper}")
-    for it in (keeper, server):
-        os.chmod(it, 0o755)
     os.environ["TOKEN_OF_ROOT"] = "secret"
     done = played(field, server)
     del os.environ["TOKEN_OF_ROOT"]
     if b"TOKEN_OF_ROOT" in field.read("told") or b"LC_ALL" not in field.read("told"):
         yield f"{field.read('told')!r}"
-    if done.returncode != 7:
-        yield f"status {done.returncode} {done.stderr[-300:]!r}"
+    yield from wrong_status(done, 7)
 
 
 class Around:
@@ -207,8 +202,7 @@ def a_server_reaches_what_has_no_name(field):
     finally:
         around.remove()
     yield from (it.decode(errors="replace") for it in done.stderr.splitlines() if it.startswith(b"reached"))
-    if done.returncode != 7:
-        yield f"status {done.returncode} {done.stderr[-300:]!r}"
+    yield from wrong_status(done, 7)
 
 
 @contextmanager
@@ -230,9 +224,8 @@ def a_folder_is_too_deep_to_remove(field):
             done = played(field, server, word, folder=room)
             if b"deep" not in done.stderr or b"Traceback" in done.stderr or done.returncode != 7:
                 yield f"{word}: status {done.returncode} {done.stderr[-300:]!r}"
-            left = os.listdir(room)
-            if left:
-                yield f"{word}: left behind: {left}"
+            if os.listdir(room):
+                yield f"{word}: left behind: {os.listdir(room)}"
 
 
 @attack("user", "cc")
@@ -246,9 +239,9 @@ def a_deep_folder_is_left(field):
         subprocess.run(["/bin/sh", "-c", "it=0; while [ $it -lt 1500 ]; do mkdir d && cd -P d; it=$((it + 1)); done"],
                        cwd=os.path.join(left, "root"), check=True)
         os.utime(left, (1, 1))
-        done = played(field, server, folder=room)
-        if done.returncode != 7 or os.listdir(room):
-            yield f"status {done.returncode} {done.stderr[-300:]!r}, left {os.listdir(room)}"
+        yield from wrong_status(played(field, server, folder=room), 7)
+        if os.listdir(room):
+            yield f"left behind: {os.listdir(room)}"
 
 
 class Aside:
@@ -260,10 +253,7 @@ class Aside:
 
     def files(self):
         """The bytes of all files below it."""
-        for place, _, names in os.walk(self.place):
-            for it in names:
-                with open(os.path.join(place, it), "rb") as file:
-                    yield file.read()
+        return [it.read_bytes() for it in Path(self.place).rglob("*") if it.is_file()]
 
 
 @attack("user", "ldd")
@@ -290,6 +280,6 @@ def a_program_becomes_a_link_to_a_file_of_root(field):
         with mock.patch.object(rooted, "libraries_of", looked_for), suppress(OSError, SystemExit):
             rooted.put_program(aside, name)
         os.close(aside.root)
-        if b"the secret of root" in list(aside.files()):
+        if b"the secret of root" in aside.files():
             yield f"a link {'before' if is_before else 'behind'} the look: the server has it"
         os.unlink(name)

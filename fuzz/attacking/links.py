@@ -1,35 +1,18 @@
 """Attacks by symbolic links on the way to a file that is written: whose they are says whether they are followed."""
 import os
-import signal
 import subprocess
 import time
+from contextlib import suppress
+from pathlib import Path
 
-from attacking.ground import CLIENTS, SECONDS, attack, wrong_status
-from attacking.saving import HELLO, OPENED
+from attacking.ground import CLIENTS, SECONDS, attack, environment, wrong_status
+from attacking.saving import HELLO, OPENED, write, writing
 from attacking.scripts import DIFFERING, ordinary
 from probing.program import program
+from trials.processes import wait_until
 
 SAID = b"a symbolic link of another user"
 FOLDERS = (0o1777, 0o777, 0o755)
-
-
-def writing(field):
-    """What the program writes, as words with SAVED for the name, and what they read."""
-    start = field.blank()
-    text = field.run("show", "--full", "--data", "all", start).stdout
-    archive = field.run("export", start).stdout
-    record = field.put("opened", OPENED)
-    return {"blank": (["blank", "SAVED"], b""), "raise": (["raise", start, "SAVED"], b""),
-            "make": (["make", "SAVED"], text), "import": (["import", "SAVED"], archive),
-            "--out": (["audit", "--tree", start, "--transcript", record, "--out", "SAVED"], b""),
-            "infer": (["infer", "--transcript", record, "SAVED"], b""),
-            "--save": (["serve", "--tree", start, "--save", "SAVED"], HELLO),
-            "--record": (["serve", "--tree", start, "--record", "SAVED"], HELLO)}
-
-
-def write(field, given, name, **options):
-    words, asked = given
-    return field.run(*[name if it == "SAVED" else it for it in words], input=asked, **options)
 
 
 def link(target, path, owner):
@@ -37,18 +20,9 @@ def link(target, path, owner):
     os.lchown(path, owner, owner)
 
 
-def shared(field, name, mode, owner=0):
-    """Makes a folder with these permissions, and returns its path."""
-    path = field.path(name)
-    os.mkdir(path)
-    os.chmod(path, mode)
-    os.chown(path, owner, owner)
-    return path
-
-
 def planted(field, folder):
     """Names in this folder that lead through a link of the other user to files of root, which are made anew."""
-    target = shared(field, f"of-root-{os.path.basename(folder)}", 0o700)
+    target = field.shared(f"of-root-{os.path.basename(folder)}", 0o700)
     victim = os.path.join(target, "victim")
     user = field.user.pw_uid
     link(victim, os.path.join(folder, "x"), user)
@@ -64,20 +38,18 @@ def a_link_of_another_user_says_what_root_writes(field):
     runs = writing(field)
     for number, mode in enumerate(FOLDERS):
         owner = field.user.pw_uid if mode == 0o755 else 0
-        folder = shared(field, f"shared-{number}", mode, owner)
+        folder = field.shared(f"shared-{number}", mode, owner)
         target, victim, names = planted(field, folder)
         for run, given in runs.items():
             for name in names:
-                with open(victim, "wb") as file:
-                    file.write(b"of root")
+                field.put(victim, b"of root")
                 before = os.stat(victim)
                 done = write(field, given, name)
                 yield from (f"{run} {name}: {it}" for it in wrong_status(done, 3))
                 if SAID not in done.stderr or done.stdout:
                     yield f"{run} {name}: says {done.stderr[-200:]!r}, prints {done.stdout[:20]!r}"
-                with open(victim, "rb") as file:
-                    if (file.read(), os.stat(victim).st_ino) != (b"of root", before.st_ino):
-                        yield f"{run} {name}, mode {mode:o}: root's file is replaced"
+                if (field.read(victim), os.stat(victim).st_ino) != (b"of root", before.st_ino):
+                    yield f"{run} {name}, mode {mode:o}: root's file is replaced"
                 if os.listdir(target) != ["victim"]:
                     yield f"{run} {name}, mode {mode:o}: root's folder has {os.listdir(target)}"
 
@@ -86,14 +58,11 @@ def a_link_of_another_user_says_what_root_writes(field):
 def a_link_of_another_user_says_what_a_user_writes(field):
     """So for a user who is not root, who follows links of root and of their own."""
     runs = writing(field)
-    folder = shared(field, "shared", 0o1777)
-    own = shared(field, "own", 0o700, field.user.pw_uid)
+    folder = field.shared("shared", 0o1777)
+    own = field.shared("own", 0o700, field.user.pw_uid)
     for owner, wanted in ((65534, 3), (0, 0), (field.user.pw_uid, 0)):
         for run, given in runs.items():
-            saved = os.path.join(own, f"{run}-{owner}")
-            with open(saved, "wb"):
-                pass
-            os.chown(saved, field.user.pw_uid, field.user.pw_gid)
+            saved = field.theirs(field.put(os.path.join(own, f"{run}-{owner}"), b""))
             name = os.path.join(folder, f"{run}-{owner}")
             link(saved, name, owner)
             done = write(field, given, name, as_user=True)
@@ -113,7 +82,7 @@ def a_mount_point_cuts_its_own_name(field):
         field.put(os.path.join(top, "up", "beside"), b"hidden")
         made = subprocess.run(["unshare", "--mount", "sh", "-c", mounted, "sh", point, os.path.join(CLIENTS, "tree"),
                                "--without-mounts", "--chroot", "--out", field.path("made.tree"), top],
-                              env={**os.environ, "SFTPV3": program()}, capture_output=True)
+                              env=environment(), capture_output=True)
         if made.returncode != 0 or b'"/up/beside"' not in field.run("show", "made.tree").stdout:
             yield f"{byte!r}: status {made.returncode}, {made.stderr!r}: what stands beside it is not there"
 
@@ -121,11 +90,9 @@ def a_mount_point_cuts_its_own_name(field):
 @attack("user")
 def a_link_that_nobody_can_have_planted(field):
     """A link of another user in a folder that only root can write is followed: nobody else put it there."""
-    folder = shared(field, "of-root", 0o755)
+    folder = field.shared("of-root")
     for run, given in writing(field).items():
-        saved, name = os.path.join(folder, f"{run}.tree"), os.path.join(folder, f"{run}.link")
-        with open(saved, "wb"):
-            pass
+        saved, name = field.put(os.path.join(folder, f"{run}.tree"), b""), os.path.join(folder, f"{run}.link")
         link(f"{run}.tree", name, field.user.pw_uid)
         yield from wrong_status(write(field, given, name), 0)
         if os.path.getsize(saved) == 0 or not os.path.islink(name):
@@ -138,11 +105,8 @@ def a_file_is_planted_for_what_root_writes(field):
     folder of that user's own, the file stays that user's."""
     for run, given in writing(field).items():
         for mode, owner, wanted in ((0o1777, 0, 0), (0o755, field.user.pw_uid, field.user.pw_uid)):
-            name = os.path.join(shared(field, f"{run}-{mode:o}", mode, owner), "planted")
-            with open(name, "wb"):
-                pass
-            os.chmod(name, 0o666)
-            os.chown(name, field.user.pw_uid, field.user.pw_gid)
+            folder = field.shared(f"{run}-{mode:o}", mode, owner)
+            name = field.theirs(field.put(os.path.join(folder, "planted"), b"", 0o666))
             is_refused = run == "--record" and wanted == 0
             yield from (f"{run}, {mode:o}: {it}" for it in wrong_status(write(field, given, name), 3 * is_refused))
             found = os.stat(name)
@@ -157,12 +121,9 @@ def a_file_is_planted_for_what_root_writes(field):
 def a_file_is_planted_for_a_session(field):
     """So for the script, which saves by itself."""
     field.blank()
-    name = os.path.join(shared(field, "shared", 0o1777), "planted")
-    with open(name, "wb"):
-        pass
-    os.chown(name, field.user.pw_uid, field.user.pw_gid)
-    done = subprocess.run([os.path.join(CLIENTS, "serve"), "--program", program(), "--tree", "start.tree", "--save",
-                           name], cwd=field.folder, input=HELLO, capture_output=True, timeout=SECONDS)
+    field.shared("shared", 0o1777)
+    name = field.theirs(field.put("shared/planted", b""))
+    done = field.call("serve", "--program", program(), "--tree", "start.tree", "--save", name, input=HELLO)
     yield from wrong_status(done, 0)
     found = os.stat(name)
     if (found.st_uid, found.st_mode & 0o777) != (0, 0o600) or not found.st_size:
@@ -189,22 +150,18 @@ def a_link_of_another_user_says_what_a_script_writes(field):
     """So for the scripts: none leads what root writes by them anywhere."""
     ordinary(field)
     field.put("opened", OPENED)
-    folder = shared(field, "shared", 0o1777)
+    folder = field.shared("shared", 0o1777)
     target, victim, names = planted(field, folder)
-    environment = {**os.environ, "SFTPV3": program()}
     for script, words in by_scripts(field):
         for name in names:
             if not os.path.islink(os.path.join(folder, "x")):
                 # what is replaced under its own name is written where it was asked for
                 os.remove(os.path.join(folder, "x"))
                 link(victim, os.path.join(folder, "x"), field.user.pw_uid)
-            with open(victim, "wb") as file:
-                file.write(b"of root")
-            done = subprocess.run([os.path.join(CLIENTS, script), *[name if it == "SAVED" else it for it in words]],
-                                  cwd=field.folder, env=environment, input=HELLO, capture_output=True, timeout=SECONDS)
-            with open(victim, "rb") as file:
-                if file.read() != b"of root" or os.listdir(target) != ["victim"]:
-                    yield f"{script} {words[0]} {name}: root's folder has {os.listdir(target)}"
+            field.put(victim, b"of root")
+            done = field.call(script, *[name if it == "SAVED" else it for it in words], input=HELLO)
+            if field.read(victim) != b"of root" or os.listdir(target) != ["victim"]:
+                yield f"{script} {words[0]} {name}: root's folder has {os.listdir(target)}"
             if "way" in name and SAID not in done.stderr:
                 yield f"{script} {words[0]} {name}: status {done.returncode}, {done.stderr[-200:]!r}"
             for it in os.listdir(target):
@@ -216,32 +173,26 @@ def take_turns(folder, victim):
     """Lets a name be a file and a link to the victim in turns."""
     os.chdir(folder)
     while True:
-        try:
+        with suppress(OSError):
             os.symlink(victim, ".link")
             os.rename(".link", "x")
-            with open(".file", "wb"):
-                pass
+            Path(".file").touch()
             os.chmod(".file", 0o666)
             os.rename(".file", "x")
-        except OSError:
-            pass
 
 
 @attack("user")
 def a_link_appears_after_the_look(field):
     """In a folder with the sticky bit, where a user's name is a file and a link in turns, root's file stays."""
     runs = writing(field)
-    folder, victim = shared(field, "shared", 0o1777), field.put("victim", b"of root", 0o600)
-    inode = os.stat(victim).st_ino
-    swapper = field.start_as_user(take_turns, folder, victim)
-    try:
-        while not os.path.lexists(os.path.join(folder, "x")):
-            time.sleep(0.01)
+    folder, victim = field.shared("shared", 0o1777), field.put("victim", b"of root", 0o600)
+    name, inode = os.path.join(folder, "x"), os.stat(victim).st_ino
+    with field.beside(take_turns, folder, victim):
+        wait_until(lambda: os.path.lexists(name))
         for run in ("blank", "--record"):
             seen = set()
             until = time.monotonic() + 15
             while len(seen) < 2 and time.monotonic() < until or len(seen) == 2 and time.monotonic() < until - 8:
-                name = os.path.join(folder, "x")
                 seen.add(write(field, runs[run], name).returncode)
                 if os.lstat(name).st_uid == 0:
                     # what root saved is root's, and the user goes on where it is gone
@@ -251,9 +202,6 @@ def a_link_appears_after_the_look(field):
                     return
             if seen - {0, 3}:
                 yield f"{run}: status {seen}"
-    finally:
-        os.kill(swapper, signal.SIGKILL)
-        os.waitpid(swapper, 0)
 
 
 @attack(is_small=True)

@@ -9,14 +9,17 @@ import subprocess
 import sys
 import time
 from contextlib import ExitStack, contextmanager, suppress
+from pathlib import Path
+from unittest import mock
 
-from attacking.ground import CLIENTS, SECONDS, attack, script
+from attacking.ground import CLIENTS, attack, script
 from attacking.saving import HELLO
 from attacking.sessions import MEBI
 from probing.program import program
 from recording import mounted, naming
 from serving import saving
 from snapshot.looking import Trouble, View
+from trials.processes import limited
 from walk_trials import hostile
 
 LOOKS = ("lstat", "stat", "readlink")
@@ -30,9 +33,7 @@ MOST = 200
 @contextmanager
 def acting_before(number, act, watched=LOOKS):
     """In this block, `act` is called before the look of this number. Yields a list of the looks at what is there."""
-    before, looks = {(os, it): getattr(os, it) for it in watched}, []
-    if "open" in watched:
-        before[mounted, "opened_within"] = mounted.opened_within
+    looks, places = [], [(os, it) for it in watched] + [(mounted, "opened_within")] * ("open" in watched)
 
     def looking(look):
         def at(*words, **options):
@@ -42,18 +43,14 @@ def acting_before(number, act, watched=LOOKS):
             return look(*words, **options)
         return at
 
-    for place, look in before.items():
-        setattr(*place, looking(look))
-    try:
+    with ExitStack() as stack:
+        for place, name in places:
+            stack.enter_context(mock.patch.object(place, name, looking(getattr(place, name))))
         yield looks
-    finally:
-        for place, look in before.items():
-            setattr(*place, look)
 
 
 def made(path, data):
-    with open(path, "wb") as file:
-        file.write(data)
+    Path(path).write_bytes(data)
     return path
 
 
@@ -61,24 +58,18 @@ class Scene:
     """A folder of all with a name of the other user, which becomes a link to a file of root."""
 
     def __init__(self, field, number):
-        self.user = field.user
-        self.shared, self.theirs = field.path(f"shared-{number}"), field.path(f"of-root-{number}")
-        os.mkdir(self.shared)
-        os.chmod(self.shared, 0o1777)
-        os.mkdir(self.theirs, 0o700)
+        self.shared, self.theirs = field.shared(f"shared-{number}", 0o1777), field.shared(f"of-root-{number}", 0o700)
         self.victim = made(os.path.join(self.theirs, "victim"), b"of root")
-        self.name = made(os.path.join(self.shared, "x"), b"")
-        os.chown(self.name, self.user.pw_uid, self.user.pw_gid)
+        self.name = field.theirs(made(os.path.join(self.shared, "x"), b""))
         os.symlink(self.victim, os.path.join(self.shared, ".link"))
-        os.lchown(os.path.join(self.shared, ".link"), self.user.pw_uid, self.user.pw_gid)
+        field.theirs(os.path.join(self.shared, ".link"))
 
     def swap(self):
         with suppress(OSError):
             os.rename(os.path.join(self.shared, ".link"), self.name)
 
     def is_whole(self):
-        with open(self.victim, "rb") as file:
-            return file.read() == b"of root" and os.listdir(self.theirs) == ["victim"]
+        return Path(self.victim).read_bytes() == b"of root" and os.listdir(self.theirs) == ["victim"]
 
 
 def save(scene, tree):
@@ -122,7 +113,7 @@ class Ways:
         os.symlink(f"{theirs}/below", f"{theirs}/linked/below")
         os.symlink(os.path.join(theirs, target), f"{self.home}/.link")
         for it in (self.home, f"{self.home}/way", f"{self.home}/way/below", f"{self.home}/.link"):
-            os.chown(it, field.user.pw_uid, field.user.pw_gid, follow_symlinks=False)
+            field.theirs(it)
 
     def swap(self):
         os.rename(f"{self.home}/way", f"{self.home}/gone")
@@ -164,20 +155,17 @@ def a_link_appears_on_the_way_to_a_folder(field):
 def a_folder_of_a_user_is_a_link(field):
     """Where a user puts a link in place of a folder, or of one on the way, root's sftpv3-tree reads nothing behind it.
     Links of root are followed."""
-    user, home, theirs = field.user.pw_uid, field.path("home"), field.path("of-root")
+    user, theirs = field.user.pw_uid, field.path("of-root")
     os.makedirs(os.path.join(theirs, "below"), 0o700)
     made(os.path.join(theirs, "below", "secret"), b"the secret of root")
-    os.mkdir(home)
-    os.chown(home, user, user)
+    home = field.shared("home", 0o755, user)
     for owner, wanted in ((user, 3), (0, 0)):
         for target, place in ((f"{theirs}/below", "files"), (theirs, "way")):
             os.symlink(target, f"{home}/{place}-{owner}")
             os.lchown(f"{home}/{place}-{owner}", owner, owner)
         for place in (f"files-{owner}", f"way-{owner}/below"):
             for words in ([], ["--chroot"]):
-                done = subprocess.run([os.path.join(CLIENTS, "tree"), "--user", str(user), "--home", "/", *words,
-                                       os.path.join(home, place)], env={**os.environ, "SFTPV3": program()},
-                                      capture_output=True, timeout=SECONDS)
+                done = field.call("tree", "--user", str(user), "--home", "/", *words, os.path.join(home, place))
                 if done.returncode != wanted or (b"the secret" in done.stdout) != (wanted == 0):
                     yield f"{place} {words}: status {done.returncode}, {len(done.stdout)} bytes {done.stderr[-200:]!r}"
                 if wanted and b"a symbolic link of another user is on the way" not in done.stderr:
@@ -193,23 +181,13 @@ MEMORY, PROMPT = 256 * MEBI, 10
 RECORD = 512 * MEBI
 
 
-def bounded():
-    resource.setrlimit(resource.RLIMIT_AS, (MEMORY, MEMORY))
-
-
-def call(field, script, *words, **options):
-    environment = {**os.environ, "SFTPV3": program()}
-    return subprocess.run([os.path.join(CLIENTS, script), *words], cwd=field.folder, env=environment,
-                          capture_output=True, stdin=subprocess.DEVNULL, timeout=SECONDS, **options)
-
-
 @attack(is_small=True)
 def a_server_tells_a_path_without_end(field):
     """A path of REALPATH that no tree file has ends a walk and a probe at once, with a line, however long it is."""
     for kind, said in hostile.PATHS.items():
         for name, words in (("walk", ["--session", "record"]), ("probe", PROBE)):
             start = time.monotonic()
-            done = call(field, name, *words, "--", *HOSTILE, kind, preexec_fn=bounded)
+            done = field.call(name, *words, "--", *HOSTILE, kind, preexec_fn=limited(resource.RLIMIT_AS, MEMORY))
             took = time.monotonic() - start
             if done.returncode != 3 or said not in done.stderr or b"Traceback" in done.stderr or took > PROMPT:
                 yield f"{name}, {kind}: status {done.returncode}, {took:.0f} seconds: {done.stderr[-300:]!r}"
@@ -218,7 +196,7 @@ def a_server_tells_a_path_without_end(field):
 @attack()
 def a_server_fills_the_disk_by_requests(field):
     """A server has each request name a long path. The record has no more bytes than it may."""
-    done = call(field, "walk", "--max-bytes", "0", "--session", "record", "--", *HOSTILE, "long_requests")
+    done = field.call("walk", "--max-bytes", "0", "--session", "record", "--", *HOSTILE, "long_requests")
     size = os.path.getsize(field.path("record"))
     if done.returncode != 3 or b"the requests and replies of the session have more than" not in done.stderr:
         yield f"status {done.returncode}: {done.stderr[-300:]!r}"
@@ -227,17 +205,13 @@ def a_server_fills_the_disk_by_requests(field):
         yield f"the record has {size // MEBI} MiB"
 
 
-def asked(field):
-    """What a loose server was asked: the name, the path and the permissions of each request."""
-    lines = [line.split(" ") for line in field.read("log").decode().splitlines()]
-    return [(name, bytes.fromhex(path), int(mode, 8)) for name, path, mode in lines]
-
-
 def probed(field, kind, *words):
-    """A run of the probe on a loose server, and what that was asked."""
+    """A run of the probe on a loose server, and what that was asked: the name, the path and the permissions of each
+    request."""
     field.put("log", b"")
-    done = call(field, "probe", *PROBE, *words, "--", *LOOSE, field.path("log"), kind, program(), field.blank())
-    return done, asked(field)
+    done = field.call("probe", *PROBE, *words, "--", *LOOSE, field.path("log"), kind, program(), field.blank())
+    lines = [line.split(" ") for line in field.read("log").decode().splitlines()]
+    return done, [(name, bytes.fromhex(path), int(mode, 8)) for name, path, mode in lines]
 
 
 @attack(is_small=True)
@@ -291,18 +265,14 @@ class FifoScene:
 
     def __init__(self, field, number, kind):
         owner, mode, of_file, has_reader = kind
-        self.folder = field.path(f"folder-{number}")
-        os.mkdir(self.folder)
-        os.chmod(self.folder, mode)
-        os.chown(self.folder, owner, owner)
+        self.folder = field.shared(f"folder-{number}", mode, owner)
         self.name, self.pipe = os.path.join(self.folder, "record"), os.path.join(self.folder, "pipe")
         if of_file is not None:
-            with open(self.name, "wb") as file:
-                file.write(b"old")
+            made(self.name, b"old")
             os.chown(self.name, of_file, of_file)
         os.mkfifo(self.pipe)
         os.chmod(self.pipe, 0o666)
-        os.chown(self.pipe, field.user.pw_uid, field.user.pw_gid)
+        field.theirs(self.pipe)
         self.reader = os.open(self.pipe, os.O_RDONLY | os.O_NONBLOCK) if has_reader else None
 
     def swap(self, user):

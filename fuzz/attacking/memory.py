@@ -1,5 +1,6 @@
 """Attacks on memory: short sessions and files that unfold."""
 import io
+import math
 import os
 import re
 import tarfile
@@ -12,10 +13,10 @@ from sftp3.trees import FILE, Entry, Tree, put
 LIMIT = 256 * MEBI
 
 
-def wrong_end(found, said, most):
-    """Says so if a run did not end for want of memory, with this line, and with at most this memory."""
+def wrong_end(found, most=math.inf, said=None):
+    """Says so if a run did not end well, or for want of memory, if there are words to say that, or with more memory."""
     status, errors, used = found
-    if status != 3 or errors != f"sftpv3: out of memory{said}\n":
+    if (status, errors) != ((0, "") if said is None else (3, f"sftpv3: out of memory{said}\n")):
         yield f"status {status}: {errors!r}"
     if used > most:
         yield f"{used // MEBI} MiB"
@@ -29,24 +30,19 @@ def a_session_takes_all_memory(field):
     for words in ([], ["--shuffle", "1"], ["--shuffle", "7"]):
         words = ["serve", "--tree", tree, "--memory", str(LIMIT), *words]
         most = LIMIT + sessions.USUAL_FILE + 16 * MEBI
-        yield from wrong_end(run(field, words, asked), "", most)
-        yield from wrong_end(run(field, [*words, "--save", "end.tree"], asked), "", most)
+        yield from wrong_end(run(field, words, asked), most, "")
+        yield from wrong_end(run(field, [*words, "--save", "end.tree"], asked), most, "")
         if field.run("show", "end.tree").stdout.count(b" F ") < 10:
             yield "what was done is not saved"
-    status, errors, _ = run(field, ["serve", "--tree", tree, "--memory", str(4 << 30)], sessions.sparse(4))
-    if status != 0 or errors:
-        yield f"a session that needs little ends with status {status}: {errors!r}"
+    yield from (f"a session that needs little: {it}" for it in wrong_end(
+        run(field, ["serve", "--tree", tree, "--memory", str(4 << 30)], sessions.sparse(4))))
 
 
 @attack()
 def truncated_files_keep_their_memory(field):
     """A file that was cut gives its memory back, so that a session which cuts each file that it made needs one's."""
     words = ["serve", "--tree", field.blank(), "--memory", str(LIMIT), "--save", "end.tree"]
-    status, errors, used = run(field, words, sessions.truncated(60))
-    if status != 0 or errors:
-        yield f"status {status}: {errors!r}"
-    if used > 4 * sessions.USUAL_FILE:
-        yield f"{used // MEBI} MiB"
+    yield from wrong_end(run(field, words, sessions.truncated(60)), 4 * sessions.USUAL_FILE)
     if field.run("show", "end.tree").stdout.count(b" F ") != 60:
         yield "a file is missing in the tree that was saved"
 
@@ -66,16 +62,14 @@ def a_replayed_session_takes_all_memory(field):
     if b' F "/0" ' not in field.run("show", "end.tree").stdout:
         yield "what was done is not saved"
     words[-1] = str(200 * MEBI)
-    status, errors, _ = run(field, words, sessions.late(300))
-    if status != 0 or errors:
-        yield f"with enough memory it ends with status {status}: {errors!r}"
+    yield from (f"with enough memory: {it}" for it in wrong_end(run(field, words, sessions.late(300))))
 
 
 @attack()
 def listings_take_all_memory(field):
     field.put("wide.tree", sessions.wide_tree(65_000))
     words = ["serve", "--tree", "wide.tree", "--memory", str(LIMIT)]
-    yield from wrong_end(run(field, words, sessions.listings(200)), "", LIMIT + 64 * MEBI)
+    yield from wrong_end(run(field, words, sessions.listings(200)), LIMIT + 64 * MEBI, "")
 
 
 @attack()
@@ -85,12 +79,10 @@ def a_transcript_unfolds(field):
     field.put("sparse", sessions.sparse_transcript(100))
     words = ["audit", "--tree", tree, "--transcript", "sparse", "--memory"]
     said = ": sparse needs more than '--memory' allows"
-    yield from wrong_end(run(field, [*words, str(LIMIT)]), said, LIMIT + sessions.USUAL_FILE + 16 * MEBI)
+    yield from wrong_end(run(field, [*words, str(LIMIT)]), LIMIT + sessions.USUAL_FILE + 16 * MEBI, said)
     field.put("few", sessions.sparse_transcript(4))
     words[4] = "few"
-    status, errors, _ = run(field, [*words, str(LIMIT)])
-    if status != 0 or errors:
-        yield f"a transcript that needs little ends with status {status}: {errors!r}"
+    yield from (f"a transcript that needs little: {it}" for it in wrong_end(run(field, [*words, str(LIMIT)])))
 
 
 @attack(is_small=True)
@@ -114,7 +106,7 @@ def files_that_are_too_long(field):
                          (["audit", "--tree", "long", "--transcript", blank], "long")):
         asked = archive_of(["f"], b"x" * (16 * MEBI)) if words[0] == "import" else b""
         said = f": {named} needs more than '--memory' allows"
-        yield from wrong_end(run(field, [*words, "--memory", str(8 * MEBI)], asked), said, 40 * MEBI)
+        yield from wrong_end(run(field, [*words, "--memory", str(8 * MEBI)], asked), 40 * MEBI, said)
     os.remove(long)
 
 
@@ -140,11 +132,8 @@ def an_archive_does_not_name_directories(field):
     said = ": standard input needs more than '--memory' allows"
     words = ["import", "made.tree", "--memory"]
     for archive, limit in ((archive_of(below(100, "d" * 250)), 16 * MEBI), (archive_of(below(1_000, "d")), 8 * MEBI)):
-        yield from wrong_end(run(field, [*words, str(limit)], archive), said, limit + 8 * MEBI)
+        yield from wrong_end(run(field, [*words, str(limit)], archive), limit + 8 * MEBI, said)
         if os.path.exists(field.path("made.tree")):
             yield "a tree is left"
-    status, errors, used = run(field, [*words, str(32 * MEBI)], archive_of(below(100, "d")))
-    if status != 0 or errors:
-        yield f"an archive that needs little ends with status {status}: {errors!r}"
-    if used > 16 * MEBI:
-        yield f"{used // MEBI} MiB"
+    yield from (f"an archive that needs little: {it}" for it in wrong_end(
+        run(field, [*words, str(32 * MEBI)], archive_of(below(100, "d"))), 16 * MEBI))

@@ -10,11 +10,13 @@ import subprocess
 import threading
 import time
 from contextlib import contextmanager, suppress
+from pathlib import Path
 from types import SimpleNamespace
+from unittest import mock
 
 from attacking import ground
-from attacking.ground import CLIENTS, SECONDS, attack
-from attacking.links import by_scripts, link, shared
+from attacking.ground import SECONDS, attack
+from attacking.links import by_scripts, link
 from attacking.looks import CALLS, MOST, acting_before
 from attacking.nights import VICTIM, Nights, record_name, wrong
 from attacking.saving import HELLO, OPENED
@@ -22,7 +24,6 @@ from attacking.scripts import ordinary
 from attacking.servers import SERVER, built, session
 from nights import night
 from probing import options, reports
-from probing.program import program
 from recording import mounted as mounts, naming, ways
 from serving import saving
 
@@ -94,8 +95,7 @@ def serve(place, options, entries):
 
 
 def is_mounted(place):
-    with open("/proc/self/mountinfo", encoding="utf-8") as file:
-        return any(line.split(" ")[4] == place for line in file)
+    return any(line.split(" ")[4] == place for line in Path("/proc/self/mountinfo").read_text("utf-8").splitlines())
 
 
 class Mount:
@@ -103,7 +103,7 @@ class Mount:
 
     def __init__(self, field, place, options, entries):
         self.place, self.clock = place, threading.Timer(HELD, self.end)
-        self.process = field.start_as_user(serve, place, options, entries)
+        self.process = ground.start_as(field.user.pw_uid, field.user.pw_gid, serve, place, options, entries)
         end = time.monotonic() + SECONDS
         while not is_mounted(place):
             if time.monotonic() > end or os.waitpid(self.process, os.WNOHANG)[0]:
@@ -134,7 +134,7 @@ def mounted(field, place, is_open=True, entries=None, hangs=False):
     other users may look at it."""
     if not os.path.exists(place):
         os.mkdir(place)
-    os.chown(place, field.user.pw_uid, field.user.pw_gid)
+    field.theirs(place)
     there = Mount(field, place, "fsname=x" + ",allow_other" * is_open, entries or {})
     try:
         if hangs:
@@ -198,26 +198,20 @@ def a_child_of_a_night_cannot_be_ended(field):
 @attack("user", "fuse", "others", "fusermount3")
 def a_mount_in_a_compared_folder_ends_the_comparison(field):
     """What a user mounted below a folder is left out of its tree, with a line, whether root may look at it or not."""
-    live = field.path("live")
-    os.mkdir(live)
+    live = field.shared("live")
     field.put("live/beside", b"")
     for is_open in (False, True):
         with mounted(field, os.path.join(live, "x"), is_open, {b"within": None}):
             for words in ([], ["--without-mounts"]):
-                done = tree_of(field, *words, "--chroot", "--out", field.path("made.tree"), live)
+                done = field.call("tree", *words, "--chroot", "--out", field.path("made.tree"), live)
                 shown = field.run("show", "made.tree").stdout
                 if done.returncode or b'"/beside"' not in shown or b'"/x' in shown or b"/x: mounted" not in done.stderr:
                     yield f"{is_open}, {words}: status {done.returncode}, {done.stderr!r}, {shown!r}"
             # for the one who mounted it, it is as any other
             done = subprocess.run([field.script("tree"), "--chroot", live], capture_output=True, timeout=SECONDS,
-                                  user=field.user.pw_uid, group=field.user.pw_gid, extra_groups=[])
+                                  **field.as_user())
             if b"/x" not in done.stdout:
                 yield f"{is_open}: its own user has no tree of it: {done}"
-
-
-def tree_of(field, *words):
-    return subprocess.run([os.path.join(CLIENTS, "tree"), *words], env={**os.environ, "SFTPV3": program()},
-                          cwd=field.folder, capture_output=True, timeout=SECONDS)
 
 
 @attack("user", "fuse", "others", "fusermount3")
@@ -226,25 +220,22 @@ def a_mount_shows_links_as_roots(field):
     have what it writes, or say what it reads."""
     ordinary(field)
     field.put("opened", OPENED)
-    target = shared(field, "of-root", 0o700)
+    target = field.shared("of-root", 0o700)
     victim = field.put("of-root/victim", b"of root")
     entries = {b"way": os.fsencode(target), b"x": os.fsencode(victim), b"d": None}
-    environment = {**os.environ, "SFTPV3": program()}
     theirs = field.path("theirs")
     with mounted(field, theirs, entries=entries):
         for script, words in by_scripts(field):
             for name in ("x", "way/victim", "way/new", "d/new"):
                 path = os.path.join(theirs, name)
-                done = subprocess.run([os.path.join(CLIENTS, script), *[path if it == "SAVED" else it for it in words]],
-                                      cwd=field.folder, env=environment, input=HELLO, capture_output=True,
-                                      timeout=SECONDS)
+                done = field.call(script, *[path if it == "SAVED" else it for it in words], input=HELLO)
                 if field.read("of-root/victim") != b"of root" or os.listdir(target) != ["victim"]:
                     yield f"{script} {words[0]} {name}: root's folder has {os.listdir(target)}"
                     subprocess.run(["find", target, "!", "-name", "victim", "-type", "f", "-delete"], check=True)
                     field.put("of-root/victim", b"of root")
                 if SAID.encode() not in done.stderr:
                     yield f"{script} {words[0]} {name}: status {done.returncode}, {done.stderr[-200:]!r}"
-        done = tree_of(field, os.path.join(theirs, "way"))
+        done = field.call("tree", os.path.join(theirs, "way"))
         if done.returncode != 3 or SAID.encode() not in done.stderr:
             yield f"a tree of what is behind it: status {done.returncode}, {done.stderr!r}"
 
@@ -269,8 +260,8 @@ class Exchanged:
 
     def __init__(self, field, number, target):
         user = field.user.pw_uid
-        self.home = shared(field, f"home-{number}", 0o755, user)
-        self.way = shared(field, f"home-{number}/way", 0o755, user)
+        self.home = field.shared(f"home-{number}", 0o755, user)
+        self.way = field.shared(f"home-{number}/way", 0o755, user)
         self.name = field.put(f"home-{number}/way/x", b"")
         link(target, f"{self.home}/.link", user)
 
@@ -292,8 +283,8 @@ def take_room(field, name):
 
 
 # Of which the whole session is no more than what was judged.
-KEPT = SimpleNamespace(session=SimpleNamespace(errors=b"", in_flight=1, end=None, ending=str, records=[]), seed=0,
-                       records=[])
+KEPT = SimpleNamespace(session=SimpleNamespace(errors=b"", in_flight=1, cut=None, is_together=False, end=None,
+                                               ending=str, records=[]), seed=0, again=None, records=[])
 BY_NAME = {
     "sftpv3-record": record,
     "two names": lambda field, name: ways.is_one_file(name, field.put("other", b"")),
@@ -301,7 +292,7 @@ BY_NAME = {
     "sftpv3-serve": take_room,
     "sftpv3-probe": lambda _, name: options.can_write("--report", name),
     "sftpv3-probe --keep": lambda _, name: options.can_write("--keep", name),
-    "what is kept": lambda _, name: reports.keep_server(os.path.dirname(name), KEPT),
+    "what is kept": lambda _, name: reports.keep_server(os.path.dirname(name), KEPT, []),
 }
 
 
@@ -337,19 +328,15 @@ def unreadable(_):
 @attack("user", "fuse", "others", "fusermount3")
 def a_mount_is_told_without_the_files_of_proc(field):
     """What another user mounted is known for that where a hidden process may not read what /proc says of its files."""
-    place, told = field.path("theirs"), mounts.told_of
-    mounts.told_of = unreadable
     folder = os.open(field.folder, mounts.HELD)
-    try:
+    with mock.patch.object(mounts, "told_of", unreadable):
         field.put("own", b"x")
         if mounts.state_at("own", folder).st_size != 1:
             yield "a file of root's has another size"
         for is_open in (False, True):
-            with mounted(field, place, is_open, hangs=True):
+            with mounted(field, field.path("theirs"), is_open, hangs=True):
                 yield from timely(f"hidden, {is_open}", lambda: told_of_another(folder))
-    finally:
-        mounts.told_of = told
-        os.close(folder)
+    os.close(folder)
 
 
 def told_of_another(folder):

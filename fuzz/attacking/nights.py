@@ -6,15 +6,17 @@ import re
 import subprocess
 import time
 from contextlib import contextmanager, suppress
+from pathlib import Path
+from unittest import mock
 
-from attacking.ground import SECONDS, attack
-from attacking.recorders import KEEPER, beside
+from attacking.ground import SECONDS, attack, environment
+from attacking.recorders import KEEPER
 from attacking.saving import TOP
 from attacking.sessions import HELLO, MEBI
 from nights import records
-from probing.program import program
 from recording import mounted
 from sftp3 import CLIENT, CREAT, SERVER, WRITE, Packet, encode, put_records, request, status, version
+from trials.disks import fill, small_disk
 
 # A user who is there on every machine, and whom another one attacks.
 VICTIM = pwd.getpwnam("nobody")
@@ -55,12 +57,8 @@ class Nights:
 
     def __init__(self, field, user, *options):
         self.field, self.user, self.options = field, user, options
-        self.home, self.spool, self.state = (field.path(it) for it in ("home", "spool", "state"))
-        self.peak, self.patience = 0, SECONDS
-        for name, owner, mode in ((self.home, user.pw_uid, 0o755), (self.spool, 0, 0o1777)):
-            os.mkdir(name)
-            os.chown(name, owner, owner)
-            os.chmod(name, mode)
+        self.home, self.spool = field.shared("home", 0o755, user.pw_uid), field.shared("spool", 0o1777)
+        self.state, self.peak, self.patience = field.path("state"), 0, SECONDS
         self.run()
 
     def run(self, *options, to=None):
@@ -70,7 +68,7 @@ class Nights:
                  *self.options, *options, self.user.pw_name, self.home]
         with open(to or self.field.path("said"), "wb" if to else "wb+") as said:
             started = subprocess.Popen(words, stdin=subprocess.DEVNULL, stdout=said, stderr=subprocess.STDOUT,
-                                       env={**os.environ, "SFTPV3": program()}, start_new_session=True)
+                                       env=environment(), start_new_session=True)
             end = time.monotonic() + self.patience
             while True:
                 ended, status, used = os.wait4(started.pid, os.WNOHANG)
@@ -91,19 +89,14 @@ class Nights:
         path = os.path.join(self.spool, name)
         with suppress(FileNotFoundError):
             os.remove(path)
-        with open(path, "wb") as file:
-            file.write(data)
+        self.field.put(path, data, mode)
         os.chown(path, owner, owner)
-        os.chmod(path, mode)
         os.utime(path, (time.time() - ended,) * 2)
         return path
 
     def own(self, owner, name=None):
         """Makes a folder in the spool, by default as the daemon makes that of the user."""
-        path = os.path.join(self.spool, name or self.user.pw_name)
-        os.mkdir(path, 0o700)
-        os.chown(path, owner, owner)
-        return path
+        return self.field.shared(os.path.join(self.spool, name or self.user.pw_name), 0o700, owner)
 
     def kept(self, kind):
         folder = os.path.join(self.state, self.user.pw_name, kind)
@@ -111,9 +104,7 @@ class Nights:
 
     def change(self):
         """Makes a directory that no record has."""
-        path = os.path.join(self.home, "unrecorded")
-        os.mkdir(path, 0o755)
-        os.chown(path, self.user.pw_uid, self.user.pw_gid)
+        self.field.shared(os.path.join(self.home, "unrecorded"), 0o755, self.user.pw_uid)
 
 
 def peak_of(process):
@@ -202,27 +193,22 @@ def a_shared_file_of_the_victim_is_moved_to_the_records(field):
         yield f"{found[1].count(NOT_TAKEN)} are named"
 
 
-class Opening:
-    """A record that becomes another one's as it is opened, by whichever call."""
+@contextmanager
+def changed_at_opening(folder, change):
+    """In this block a record of the folder becomes another one's as it is opened, by whichever call."""
+    opened_before = []
 
-    def __init__(self, folder, change):
-        self.folder, self.change, self.is_changed = folder, change, False
-
-    def __enter__(self):
-        self.open, self.within = os.open, mounted.opened_within
-        os.open, mounted.opened_within = self.by(self.open), self.by(self.within)
-        return self
-
-    def by(self, call):
-        def changed(name, *words, **options):
-            if os.fsdecode(name).endswith(".transcript") and not self.is_changed:
-                self.is_changed = True
-                self.change(name, self.folder)
+    def changing(call):
+        def at(name, *words, **options):
+            if os.fsdecode(name).endswith(".transcript") and not opened_before:
+                opened_before.append(name)
+                change(name, folder)
             return call(name, *words, **options)
-        return changed
+        return at
 
-    def __exit__(self, *_):
-        os.open, mounted.opened_within = self.open, self.within
+    with mock.patch.object(os, "open", changing(os.open)), \
+            mock.patch.object(mounted, "opened_within", changing(mounted.opened_within)):
+        yield
 
 
 @attack("user")
@@ -232,13 +218,12 @@ def a_record_changes_before_it_is_opened(field):
                "link": lambda name, folder: os.link(name, f"{name}.2", src_dir_fd=folder, dst_dir_fd=folder),
                "owner": lambda name, folder: os.chown(name, 1, 1, dir_fd=folder)}
     for kind, change in changes.items():
-        spool = field.path(kind)
-        os.mkdir(spool)
+        spool = field.shared(kind)
         field.put(f"{kind}/{record_name(VICTIM)}", b"", 0o600)
         os.chown(os.path.join(spool, record_name(VICTIM)), VICTIM.pw_uid, VICTIM.pw_gid)
         found = records.Spool(spool, VICTIM.pw_uid)
         record, = found.records()
-        with Opening(found.shared, change), suppress(records.NotTaken, records.Failed):
+        with changed_at_opening(found.shared, change), suppress(records.NotTaken, records.Failed):
             record.open()
             yield f"{kind}: it is opened"
 
@@ -278,8 +263,7 @@ def a_name_reads_like_a_verdict(field):
 def a_log_of_the_nights_is_every_users(field):
     """What the documents say to keep what a night prints makes a log that only root reads."""
     for place in ("docs/OPERATORS.md", "packaging/sftpv3-nightly.cron"):
-        with open(os.path.join(TOP, place), encoding="utf-8") as file:
-            text = file.read()
+        text = Path(TOP, place).read_text(encoding="utf-8")
         log, = set(re.findall(r">>(/var/log/\S+) 2>&1", text))
         made = re.search(rf"(install [^`\n]*) {log}\b", text)
         there = field.path("log")
@@ -296,9 +280,8 @@ def records_of_others_are_reached_through_a_link(field):
     nights = Nights(field, VICTIM)
     kept = os.path.join(nights.state, "other", "accepted")
     os.makedirs(kept, 0o700)
-    dear = os.path.join(kept, "other-20261127T101500Z-local-1.transcript")
-    with open(dear, "wb") as file:
-        file.write(session(mkdir(f"{nights.home}/d")))
+    dear = field.put(os.path.join(kept, "other-20261127T101500Z-local-1.transcript"),
+                     session(mkdir(f"{nights.home}/d")))
     os.utime(dear, (1, 1))
     for mode in (0o1777, 0o755):
         os.symlink(kept, os.path.join(nights.spool, VICTIM.pw_name))
@@ -351,7 +334,7 @@ def a_verdict_is_put_off(field):
     os.utime(os.path.join(nights.state, field.user.pw_name, "compared"), (time.time() - 4000,) * 2)
     yield from wrong(nights.run("--longest", "1"), 1, "still running", "not compared since")
     os.close(held)
-    with beside(field, always_now, path):
+    with field.beside(always_now, path):
         yield from wrong(nights.run(), 1, "still running", "not compared since")
     yield from wrong(nights.run(), 0, "1 session accepted; the folder is as they left it")
 
@@ -433,9 +416,8 @@ def a_kept_record_is_changed(field):
         if not kept:
             yield f"nothing is {kind}"
             continue
-        with open(kept[0], "rb") as file:
-            if file.read() != changed:
-                yield f"what was {kind} is changed"
+        if field.read(kept[0]) != changed:
+            yield f"what was {kind} is changed"
         found = os.stat(kept[0])
         if (found.st_uid, found.st_mode & 0o777) != (0, 0o600):
             yield f"what was {kind} is of {found.st_uid}, mode {found.st_mode & 0o777:o}"
@@ -510,30 +492,17 @@ def what_is_printed_of_names_takes_all_memory(field):
             yield from wrong(found, 0, "and 580 more\n", "the tree of the start has ")
 
 
-@contextmanager
-def small_disk(folder, size):
-    """A file system of so many bytes in a folder."""
-    os.mkdir(folder, 0o700)
-    subprocess.run(["mount", "-t", "tmpfs", "-o", f"size={size},mode=700", "none", folder], check=True)
-    try:
-        yield
-    finally:
-        subprocess.run(["umount", folder], check=True)
-
-
 @attack("user", "mount")
 def a_full_disk_hides_a_refusal(field):
     """A refusal is told where there is room for the record and not for its verdict, and what is printed can be lost:
     the next night starts from the folder, or judges the record again."""
-    with small_disk(field.path("state"), MEBI):
+    with small_disk(Path(field.path("state")), MEBI, "mode=700"):
         nights = Nights(field, field.user)
         filling = os.path.join(nights.state, "filling")
         refused = session(("REMOVE", b"/absent"))
         for name, room, wanted in (("first", 4096, 3), ("second", MEBI, 1)):
             path = nights.put(record_name(field.user), refused, field.user.pw_uid)
-            with open(filling, "wb", buffering=0) as file, suppress(OSError):
-                while file.write(bytes(4096)):
-                    pass
+            fill(filling)
             os.truncate(filling, os.path.getsize(filling) - min(room, os.path.getsize(filling)))
             yield from wrong(nights.run(), wanted, "refused record 4: NotAllowed", without=["accepted 1 requests"])
             os.truncate(filling, 0)
@@ -591,8 +560,8 @@ def time_of_keeping(field, owner, number):
 @attack("user")
 def many_names_with_one_beginning_take_all_time(field):
     """The last of 1,200 records whose names begin alike takes no longer than the first."""
-    os.mkdir(field.path("records"))
-    os.mkdir(field.path("kept"))
+    field.shared("records")
+    field.shared("kept")
     numbers = records.Numbers()
     field.copy_of = lambda record: records.Copy(field.path("kept"), record, numbers)
     passed = [time_of_keeping(field, field.user.pw_uid, number) for number in range(1200)]
@@ -605,20 +574,20 @@ def many_names_with_one_beginning_take_all_time(field):
 
 @attack("user")
 def an_empty_record_has_another_name(field):
-    """What is said of a record, and kept beside it, has its name, be it empty."""
+    """What is said of a record, and kept beside it, has its name, be it empty or no record."""
     nights, name = Nights(field, field.user), record_name(field.user)
-    nights.put(name, b"", field.user.pw_uid)
-    yield from wrong(nights.run(), 1, f"  sftpv3: {name} is empty", without=["/proc/"])
-    for kept in nights.kept("refused"):
-        with open(kept, "rb") as file:
-            if b"/proc/" in file.read():
-                yield f"{kept} names a descriptor"
+    for data, said in ((b"", "not judged: nothing was recorded"), (b"x", "sftpv3: transcript: record 0: Magic")):
+        nights.put(name, data, field.user.pw_uid)
+        yield from wrong(nights.run(), 1, f"{name}: {said}", without=["/proc/"])
+    verdicts = [it for it in nights.kept("refused") if it.endswith(".verdict")]
+    if len(verdicts) != 1 or b"/proc/" in field.read(verdicts[0]):
+        yield f"{verdicts} are kept, or name a descriptor"
 
 
 @attack("user", "mount")
 def a_disk_is_full(field):
     """A record that has no room where it is kept stays where it is, whole, and nothing cut is kept."""
-    with small_disk(field.path("state"), MEBI):
+    with small_disk(Path(field.path("state")), MEBI, "mode=700"):
         nights = Nights(field, field.user)
         data = session(*(it for _ in range(9000) for it in (mkdir(f"{nights.home}/d"), rmdir(f"{nights.home}/d"))))
         path = nights.put(record_name(field.user), data, field.user.pw_uid)

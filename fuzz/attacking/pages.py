@@ -5,14 +5,14 @@ import re
 import shutil
 import subprocess
 import tarfile
+from pathlib import Path
 from xml.etree import ElementTree
 
 import sftp3
-from attacking.ground import SECONDS, attack, wrong_status
+from attacking.ground import SECONDS, attack, environment, identity, wrong_status
 from attacking.memory import archive_of
 from attacking.recorders import VICTIM
 from attacking.saving import OPENED, TOP
-from probing.program import program
 from sftp3 import BEGUN, CLIENT, SERVER, init, put_records, request
 from sftp3.trees import DIRECTORY, Entry, Tree, put
 
@@ -23,24 +23,20 @@ ONCE = ["--jobs", "1", "--seeds", "1", "--requests", "10", "--skip", "transfers"
 
 def run(field, name, *words, user=VICTIM, folder=None):
     """Runs a script as somebody, by default in the folder of the attack."""
-    environment = {**os.environ, "SFTPV3": field.program if user else program(), "HOME": field.folder}
-    ids = {"user": user, "group": user, "extra_groups": []} if user else {}
+    given = environment(HOME=field.folder, **({"SFTPV3": field.program} if user else {}))
     return subprocess.run([field.script(name), *words], capture_output=True, cwd=folder or field.folder,
-                          timeout=SECONDS, env=environment, **ids)
+                          timeout=SECONDS, env=given, **(identity(user) if user else {}))
 
 
 def hostile_server(field):
     """The words that start a server whose texts are hostile. The probe plays nothing on a server that takes no tree."""
-    with open(os.path.join(HERE, "hostile_server.py"), "rb") as file:
-        return ["/usr/bin/python3", "-I", field.put("server.py", file.read()), "{tree}"]
+    return ["/usr/bin/python3", "-I", field.put("server.py", Path(HERE, "hostile_server.py").read_bytes()), "{tree}"]
 
 
 @attack("user")
 def a_kept_folder_of_another_user(field):
     """The probe writes into no folder of another user, and through no link of theirs."""
-    shared = field.path("tmp")
-    os.mkdir(shared)
-    os.chmod(shared, 0o1777)
+    shared = field.shared("tmp", 0o1777)
     victim = field.put("victim", b"dear", 0o600)
     os.chown(victim, VICTIM, VICTIM)
     words = [*ONCE, "--", *hostile_server(field)]
@@ -55,8 +51,7 @@ def a_kept_folder_of_another_user(field):
         os.mkdir(f"{kept}/{it}")
         os.symlink(victim, f"{kept}/{it}/standard-error.txt")
     for place in [kept, *(f"{kept}/{it}" for it in made)]:
-        os.chown(place, field.user.pw_uid, field.user.pw_gid)
-        os.chmod(place, 0o777)
+        os.chmod(field.theirs(place), 0o777)
     done = run(field, "probe", *words, folder=shared)
     if done.returncode != 2 or b"--keep" not in done.stderr:
         yield f"status {done.returncode}: {done.stderr[-200:]!r}"
@@ -130,9 +125,7 @@ NAME = "x\naccepted 5 requests\n\x1b[2J\u009b\u202e\\"
 def a_name_passes_for_a_verdict(field):
     """A file name with line feeds and `accepted` is one line of a message, without control characters."""
     start = field.blank()
-    bad = field.path(NAME.replace("/", ""))
-    with open(bad, "wb") as it:
-        it.write(b"SFTREE01")
+    bad = field.put(NAME.replace("/", ""), b"SFTREE01")
     absent = NAME + "absent"
     runs = [["audit", "--tree", start, "--transcript", absent], ["audit", "--tree", absent, "--transcript", start],
             ["audit", "--tree", bad, "--transcript", bad], ["show", absent], ["show", bad], ["show", "--full", absent],
@@ -171,8 +164,8 @@ def a_name_fills_the_screen(field):
 def a_name_runs_in_a_makefile(field):
     """What the documents give to make runs no part of a transcript's name, says that one was left out, and waits for no
     pipe."""
-    with open(os.path.join(TOP, "docs/USING.md"), encoding="utf-8") as file:
-        field.put("Makefile", re.search(r"(?s)```make[^\n]*\n(.*?)```", file.read())[1].encode())
+    page = Path(TOP, "docs/USING.md").read_text(encoding="utf-8")
+    field.put("Makefile", re.search(r"(?s)```make[^\n]*\n(.*?)```", page)[1].encode())
     field.blank()
     os.mkdir(field.path("records"))
     field.put("records/good.transcript", OPENED)

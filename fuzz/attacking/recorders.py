@@ -9,15 +9,18 @@ import struct
 import subprocess
 import time
 from contextlib import contextmanager, suppress
+from pathlib import Path
 from types import SimpleNamespace
+from unittest import mock
 
 from attacking import hostile
-from attacking.ground import CLIENTS, SECONDS, attack, wrong_status
+from attacking.ground import CLIENTS, SECONDS, attack, environment, identity, start_as, stop, words_of, wrong_status
 from nights.records import Spool
 from probing.program import program
 from recording import auditing, naming
 from sftp3 import init, request
 from sshd_trials import page
+from trials.processes import children_of, wait_until
 
 HELLO = init()
 ASKED = HELLO + request(1, "MKDIR", b"/SECRET", {})
@@ -87,9 +90,7 @@ def a_user_has_the_folder_of_another(field):
     # one of two users has the other's number as a name, and the other has no account
     accounts = {4_000_001: "DOM\\bob", 4_000_002: "DOM_bob", 4_000_003: "4000004"}
     folders = {4_000_001: "DOM=5cbob", 4_000_002: "DOM_bob", 4_000_003: "4000004", 4_000_004: "uid==4000004"}
-    asked = pwd.getpwuid
-    pwd.getpwuid = lambda number: SimpleNamespace(pw_name=accounts[number])
-    try:
+    with mock.patch.object(pwd, "getpwuid", lambda number: SimpleNamespace(pw_name=accounts[number])):
         for number, name in folders.items():
             spool = Spool(field.folder, number)
             spool.look()
@@ -98,27 +99,13 @@ def a_user_has_the_folder_of_another(field):
             spool.look()
             if taken_before or spool.own is None:
                 yield f"{name}: {spool.refused}"
-    finally:
-        pwd.getpwuid = asked
-
-
-@contextmanager
-def beside(field, function, *words):
-    """The other user does this as long as the block runs."""
-    child = field.start_as_user(function, *words)
-    time.sleep(0.3)
-    try:
-        yield
-    finally:
-        os.kill(child, signal.SIGKILL)
-        os.waitpid(child, 0)
 
 
 def record(field, *words, asked=ASKED, user=VICTIM):
     """Records a session of the program as somebody. Returns how that ended."""
     command = [field.script("record"), *words, field.program, "serve", "--tree", "start.tree"]
-    return subprocess.run(command, input=asked, capture_output=True, cwd=field.folder, timeout=SECONDS, user=user,
-                          group=user, extra_groups=[])
+    return subprocess.run(command, input=asked, capture_output=True, cwd=field.folder, timeout=SECONDS,
+                          **identity(user))
 
 
 @contextmanager
@@ -131,19 +118,16 @@ def daemon(field, *words, before=()):
 @contextmanager
 def started(field, *words, before=()):
     """The same for users with accounts. `before` is what starts it."""
-    run, spool = field.path("run"), field.path("spool")
-    for it in (run, spool):
-        os.mkdir(it)
-        os.chown(it, KEEPER, KEEPER)
-    os.chmod(spool, 0o700)
-    with subprocess.Popen([*before, field.script("recordd"), "--socket", f"{run}/s", *words, spool], user=KEEPER,
-                          group=KEEPER, extra_groups=[], stderr=subprocess.DEVNULL) as running:
+    run, spool = field.shared("run", 0o755, KEEPER), field.shared("spool", 0o700, KEEPER)
+    with subprocess.Popen([*before, field.script("recordd"), "--socket", f"{run}/s", *words, spool],
+                          stderr=subprocess.DEVNULL, **identity(KEEPER)) as running:
         try:
-            while not os.path.exists(f"{run}/s"):
-                time.sleep(0.05)
+            wait_until(lambda: os.path.exists(f"{run}/s"))
             yield f"{run}/s", spool
         finally:
             running.kill()
+    for it in (run, spool):
+        shutil.rmtree(it)
 
 
 def lengths(folder):
@@ -154,10 +138,8 @@ def lengths(folder):
 def a_pipe_in_place_of_a_transcript(field):
     """In a folder of mode 1777, a FIFO of the transcript's name that another user makes in time is not written to."""
     field.blank()
-    folder, told = field.path("shared"), field.put("told", b"", 0o666)
-    os.mkdir(folder)
-    os.chmod(folder, 0o1777)
-    with beside(field, hostile.pipes_for_transcripts, folder, "{user}-{time}-local-{process}.transcript", told):
+    folder, told = field.shared("shared", 0o1777), field.put("told", b"", 0o666)
+    with field.beside(hostile.pipes_for_transcripts, folder, "{user}-{time}-local-{process}.transcript", told):
         for turn in range(8):
             done = record(field, "--required", "--times", f"{folder}/times{turn}", f"{folder}/%u-%t-%h-%p.transcript")
             yield from wrong_status(done, 0)
@@ -175,12 +157,9 @@ def a_pipe_in_place_of_a_transcript(field):
 def a_file_to_be_replaced_is_of_another_user(field):
     """--overwrite and --log write into no file of another user, and names that are taken end no session."""
     field.blank()
-    folder = field.path("shared")
-    os.mkdir(folder)
-    os.chmod(folder, 0o777)
+    folder = field.shared("shared", 0o777)
     for name in ("record", "log", *(f"taken{end}" for end in ["", *(f".{it}" for it in range(2, 40))])):
-        os.chmod(field.put(f"shared/{name}", b"", 0o666), 0o666)
-        os.chown(f"{folder}/{name}", field.user.pw_uid, field.user.pw_gid)
+        field.theirs(field.put(f"shared/{name}", b"", 0o666))
     yield from wrong_status(record(field, "--required", "--overwrite", f"{folder}/record"), 3)
     yield from wrong_status(record(field, "--required", "--log", f"{folder}/log", f"{folder}/taken"), 0)
     if any(field.read(f"shared/{it}") for it in ("record", "log")):
@@ -192,13 +171,9 @@ def another_user_listens(field):
     """A socket in a shared folder that another user made first is given nothing."""
     field.blank()
     told = field.put("told", b"", 0o666)
-    for number_of_try, (folder, mode) in enumerate((("tmp", 0o1777), ("tmp/theirs", 0o755))):
-        os.mkdir(field.path(folder))
-        os.chmod(field.path(folder), mode)
-        if number_of_try:
-            os.chown(field.path(folder), field.user.pw_uid, field.user.pw_gid)
-        name = f"{field.path(folder)}/s"
-        with beside(field, hostile.daemon_of_its_own, name, told):
+    for folder, mode, owner in (("tmp", 0o1777, 0), ("tmp/theirs", 0o755, field.user.pw_uid)):
+        name = f"{field.shared(folder, mode, owner)}/s"
+        with field.beside(hostile.daemon_of_its_own, name, told):
             yield from wrong_status(record(field, "--required", "--spool", name), 3)
             done = record(field, "--spool", name)
             yield from wrong_status(done, 0)
@@ -213,19 +188,16 @@ def one_user_holds_up_the_daemon(field):
     """While one user keeps the daemon busy, the session of another one is recorded, in little time."""
     field.blank()
     with daemon(field, "--records-per-user", "30000") as (name, spool):
-        theirs = os.path.join(spool, field.user.pw_name)
-        os.mkdir(theirs, 0o700)
-        os.chown(theirs, KEEPER, KEEPER)
+        theirs = field.shared(os.path.join(spool, field.user.pw_name), 0o700, KEEPER)
         for it in range(20_000):
             os.close(os.open(f"{theirs}/{it}", os.O_CREAT | os.O_WRONLY, 0o600))
         for function in (hostile.empty_batches, hostile.small_batches, hostile.hellos, hostile.connections):
-            with beside(field, function, name):
+            with field.beside(function, name):
                 time.sleep(1)
                 start = time.monotonic()
-                done = record(field, "--required", "--spool", name)
+                yield from (f"{function.__name__}: {it}" for it in
+                            wrong_status(record(field, "--required", "--spool", name), 0))
                 took = time.monotonic() - start
-                for it in wrong_status(done, 0):
-                    yield f"{function.__name__}: {it}"
                 if took > 4:
                     yield f"{function.__name__}: {took:.1f} seconds"
 
@@ -244,11 +216,19 @@ runpy.run_path(sys.argv[0], run_name="__main__")
 """
 
 
+def process_of_daemon(name):
+    link = hostile.connected(name)
+    return PEER.unpack(link.getsockopt(socket.SOL_SOCKET, socket.SO_PEERCRED, PEER.size))[0]
+
+
+def has_ended(process):
+    return Path(f"/proc/{process}/stat").read_text(encoding="ascii").split()[2] == "Z"
+
+
 def slow_ones(field, name, function):
     """What is wrong, or slow, while the other user does this: a session of another one, and then the daemon's end."""
-    link = hostile.connected(name)
-    process = PEER.unpack(link.getsockopt(socket.SOL_SOCKET, socket.SO_PEERCRED, PEER.size))[0]
-    with beside(field, function, name):
+    process = process_of_daemon(name)
+    with field.beside(function, name):
         time.sleep(1)
         for _ in range(3):
             start = time.monotonic()
@@ -257,9 +237,8 @@ def slow_ones(field, name, function):
                 yield f"a session takes {time.monotonic() - start:.1f} seconds"
         os.kill(process, signal.SIGTERM)
         time.sleep(2)
-    with open(f"/proc/{process}/stat") as it:
-        if it.read().split()[2] != "Z":
-            yield "the daemon goes on for 2 seconds after its end is asked for"
+    if not has_ended(process):
+        yield "the daemon goes on for 2 seconds after its end is asked for"
 
 
 @attack("user")
@@ -271,13 +250,6 @@ def one_user_passes_descriptors(field):
             with daemon(field, before=older) as (name, _):
                 for it in slow_ones(field, name, function):
                     yield f"{function.__name__}{', older kernel' if older else ''}: {it}"
-            for it in ("run", "spool"):
-                shutil.rmtree(field.path(it))
-
-
-def has_ended(process):
-    with open(f"/proc/{process}/stat", encoding="ascii") as it:
-        return it.read().split()[2] == "Z"
 
 
 @attack("user")
@@ -285,23 +257,17 @@ def one_user_fills_the_queue_of_a_daemon_that_ends(field):
     """The end of the daemon waits for nothing that came by connections which it has not taken."""
     for older in ((), ("/usr/bin/python3", "-ISc", OLDER)):
         with daemon(field, before=older) as (name, _):
-            link = hostile.connected(name)
-            process = PEER.unpack(link.getsockopt(socket.SOL_SOCKET, socket.SO_PEERCRED, PEER.size))[0]
+            process = process_of_daemon(name)
             os.kill(process, signal.SIGSTOP)
-            child = field.start_as_user(hostile.full_queue, name)
-            time.sleep(5)
+            with field.beside(hostile.full_queue, name):
+                time.sleep(5)
             # whoever passed them is gone, so the queue has the last reference to each
-            os.kill(child, signal.SIGKILL)
-            os.waitpid(child, 0)
             for it in (signal.SIGTERM, signal.SIGCONT):
                 os.kill(process, it)
             start = time.monotonic()
-            while not has_ended(process) and time.monotonic() < start + 8:
-                time.sleep(0.05)
+            wait_until(lambda: has_ended(process), 8, 0.05)
             if time.monotonic() > start + 2:
                 yield f"{time.monotonic() - start:.0f} seconds to its end{', older kernel' if older else ''}"
-        for it in ("run", "spool"):
-            shutil.rmtree(field.path(it))
 
 
 @attack("user")
@@ -320,22 +286,12 @@ def one_user_takes_the_daemons_files(field):
         yield from wrong_status(record(field, "--required", "--spool", name), 0)
 
 
-def connections_by(name, users):
-    """As many connections as one user may have, by each of these users of no account. Gives the processes."""
-    for user in users:
-        child = os.fork()
-        if child == 0:
-            try:
-                os.setgroups([])
-                os.setgid(user)
-                os.setuid(user)
-                links = [hostile.connected(name) for _ in range(64)]
-                for link in links:
-                    link.sendall(hostile.HELLO)
-                time.sleep(SECONDS)
-            finally:
-                os._exit(1)
-        yield child
+def stay_connected(name):
+    """As many connections as one user may have."""
+    links = [hostile.connected(name) for _ in range(64)]
+    for link in links:
+        link.sendall(hostile.HELLO)
+    time.sleep(SECONDS)
 
 
 @attack("user")
@@ -343,14 +299,13 @@ def one_user_has_many_uids(field):
     """The uids of a user's namespaces do not take the connections of others: those without an account get none."""
     field.blank()
     with started(field) as (name, _):
-        children = list(connections_by(name, range(70_000, 70_016)))
+        children = [start_as(user, user, stay_connected, name) for user in range(70_000, 70_016)]
         try:
             time.sleep(2)
             yield from wrong_status(record(field, "--required", "--spool", name, user=field.user.pw_uid), 0)
         finally:
             for child in children:
-                os.kill(child, signal.SIGKILL)
-                os.waitpid(child, 0)
+                stop(child)
         yield from wrong_status(record(field, "--required", "--spool", name), 3)
 
 
@@ -369,33 +324,27 @@ def lines(field):
 def swap(place, victim):
     """Puts a link to the victim in place of each file of another user in a folder, as soon as it is there."""
     while True:
-        try:
+        with suppress(OSError):
             for it in os.listdir(place):
                 name = os.path.join(place, it)
                 if os.lstat(name).st_uid != os.getuid():
                     os.symlink(victim, f"{place}/.link")
                     os.rename(f"{place}/.link", name)
-        except OSError:
-            pass
 
 
 @attack("user", "setpriv")
 def a_link_appears_where_root_makes_the_start(field):
     """The user, who owns the folder, gets no file of root by what root does there; and the tree is the user's."""
-    os.mkdir(field.path("files"))
-    os.mkdir(field.path("live"))
-    commands = field.path("commands")
-    os.mkdir(commands)
-    os.symlink(os.path.join(CLIENTS, "tree"), os.path.join(commands, "sftpv3-tree"))
-    environment = {**os.environ, "SFTPV3": program(), "PATH": f"{commands}:{os.environ['PATH']}"}
+    for it in ("files", "live", "commands"):
+        os.mkdir(field.path(it))
+    os.symlink(os.path.join(CLIENTS, "tree"), field.path("commands/sftpv3-tree"))
+    search = environment(PATH=f"{field.path('commands')}:{os.environ['PATH']}")
     victim, place, user = field.put("victim", b"of root", 0o600), field.path("live/u"), field.user.pw_uid
     for _ in range(TRIES):
         shutil.rmtree(place, ignore_errors=True)
-        swapper = field.start_as_user(swap, place, victim)
-        done = subprocess.run(["sh", "-e", "-c", lines(field)], env=environment, capture_output=True, timeout=SECONDS)
-        time.sleep(0.2)
-        os.kill(swapper, signal.SIGKILL)
-        os.waitpid(swapper, 0)
+        with field.beside(swap, place, victim):
+            done = subprocess.run(["sh", "-e", "-c", lines(field)], env=search, capture_output=True, timeout=SECONDS)
+            time.sleep(0.2)
         if os.stat(victim).st_uid != 0 or field.read("victim") != b"of root":
             yield f"root's file is of user {os.stat(victim).st_uid}"
             return
@@ -417,32 +366,24 @@ for name, flags in (("mem", os.O_RDWR), ("maps", os.O_RDONLY)):
 
 def child_of(process, word):
     """The process with this word in its command that another one started, or None if it is not there in time."""
-    end = time.monotonic() + 10
-    while time.monotonic() < end:
-        with open(f"/proc/{process}/task/{process}/children", encoding="ascii") as file:
-            children = file.read().split()
-        for it in children:
-            with suppress(OSError), open(f"/proc/{it}/cmdline", "rb") as file:
-                if word in file.read().split(b"\0"):
-                    return it
-        time.sleep(0.02)
-    return None
+    found = []
+    wait_until(lambda: found.extend(it for it in children_of(process) if word in words_of(it)) or found, 10)
+    return found[0] if found else None
 
 
 def memory_of_the_audit(field, *words):
     """Starts a session of the other user with an audit, tries to open the memory of this one as the user, and ends the
     session. Returns what the tries said, and the log."""
-    identity = {"user": field.user.pw_uid, "group": field.user.pw_gid, "extra_groups": []}
     command = [field.path("installed/bin/sftpv3-record"), "--audit", "--overwrite", "--tree", field.path("start.tree"),
                "--log", "log", *words, "record", field.program, "serve", "--tree", field.path("start.tree")]
     with subprocess.Popen(command, cwd=field.path("own"), stdin=subprocess.PIPE, stdout=subprocess.PIPE,
-                          **identity) as session:
+                          **field.as_user()) as session:
         session.stdin.write(HELLO)
         session.stdin.flush()
         session.stdout.read(124)
         audit = child_of(session.pid, b"audit")
         said = subprocess.run(["/usr/bin/python3", "-IS", "-c", OPEN_MEMORY, str(audit)], capture_output=True,
-                              text=True, **identity).stdout
+                              text=True, **field.as_user()).stdout
         session.communicate(ASKED[len(HELLO):], timeout=SECONDS)
     log = field.read("own/log").decode()
     os.remove(field.path("own/log"))
@@ -455,10 +396,8 @@ WARNED = "a client of the server can write into the audit"
 @attack(is_small=True)
 def a_system_opens_the_memory_of_what_cannot_be_read(field):
     """By fs.suid_dumpable=1 a program that its user cannot read has no memory of its own, which the log says."""
-    at_first = auditing.SCOPE, auditing.DUMPABLE, os.getuid, os.access
-    auditing.SCOPE, auditing.DUMPABLE = field.path("scope"), field.path("dumpable")
-    os.getuid, os.access = lambda: VICTIM, lambda _, wanted: wanted != os.R_OK
-    try:
+    with mock.patch.multiple(auditing, SCOPE=field.path("scope"), DUMPABLE=field.path("dumpable")), \
+            mock.patch.multiple(os, getuid=lambda: VICTIM, access=lambda _, wanted: wanted != os.R_OK):
         for scope, dumpable, is_warned in ((b"0", b"0", False), (b"0", b"1", True), (b"0", b"2", False),
                                            (b"1", b"1", False)):
             field.put("scope", scope + b"\n")
@@ -466,8 +405,6 @@ def a_system_opens_the_memory_of_what_cannot_be_read(field):
             said = auditing.exposure("/bin/sh") or ""
             if (WARNED in said and "fs.suid_dumpable" in said) != is_warned:
                 yield f"ptrace_scope {scope}, suid_dumpable {dumpable}: {said!r}"
-    finally:
-        auditing.SCOPE, auditing.DUMPABLE, os.getuid, os.access = at_first
 
 
 @attack("user")
@@ -475,10 +412,8 @@ def a_client_opens_the_memory_of_the_audit(field):
     """An installed audit that reads along gives its memory to no other process of its user. Where the program can be
     read, and the system lets processes of one user at each other, the log says that it does."""
     field.blank()
-    os.mkdir(field.path("own"), 0o700)
-    os.chown(field.path("own"), field.user.pw_uid, field.user.pw_gid)
-    done = subprocess.run([os.path.join(CLIENTS, "../install"), "--prefix", field.path("installed")],
-                          env={**os.environ, "SFTPV3": program(), "DESTDIR": ""}, capture_output=True, timeout=SECONDS)
+    field.shared("own", 0o700, field.user.pw_uid)
+    done = field.call("../install", "--prefix", field.path("installed"), env=environment(DESTDIR=""))
     yield from wrong_status(done, 0)
     said, log = memory_of_the_audit(field)
     if said != "mem EACCES\nmaps EACCES\n":

@@ -8,7 +8,7 @@ import sys
 import tempfile
 from contextlib import suppress
 
-from attacking.ground import CLIENTS, SECONDS, attack
+from attacking.ground import CLIENTS, SECONDS, attack, environment
 from attacking.looks import CALLS, MOST, acting_before
 from attacking.scripts import DIFFERING, ordinary
 from probing import files
@@ -26,17 +26,14 @@ class Scene:
     a folder of root in the place of what was made there, or of what is on the way to it."""
 
     def __init__(self, field, number, is_below, has_root):
-        self.home, self.theirs = field.path(f"home-{number}"), field.path(f"of-root-{number}")
-        self.user = field.user.pw_uid
+        self.theirs, self.user = field.path(f"of-root-{number}"), field.user.pw_uid
         for it in ("below", "root")[:1 + has_root]:
             os.makedirs(f"{self.theirs}/{it}")
-        os.mkdir(self.home)
-        self.room = self.home
+        self.home = self.room = field.shared(f"home-{number}", 0o755, self.user)
         if is_below:
             self.room = f"{self.home}/way/below"
             os.makedirs(self.room, 0o700)
-            os.chown(f"{self.home}/way", field.user.pw_uid, field.user.pw_gid)
-        os.chown(self.home, field.user.pw_uid, field.user.pw_gid)
+            field.theirs(f"{self.home}/way")
         self.before = self.state()
 
     def swap(self):
@@ -132,7 +129,7 @@ def takers(field):
 def wrong_of(field, words, room, is_taken):
     """What is wrong with how a script takes or refuses this folder."""
     done = subprocess.run(words, cwd=field.folder, input=init(), capture_output=True, timeout=SECONDS,
-                          env={**os.environ, "SFTPV3": program(), "TMPDIR": room, "DESTDIR": field.path("of-install")})
+                          env=environment(TMPDIR=room, DESTDIR=field.path("of-install")))
     is_said = b"who can replace temporary files (TMPDIR)" in done.stderr or b"link of another user" in done.stderr
     if is_said == is_taken or is_said and done.returncode != 3 or b"Traceback" in done.stderr:
         yield f"{os.path.basename(words[0])}, {os.path.basename(room)}: {done.returncode} {done.stderr[-300:]!r}"
@@ -156,8 +153,7 @@ def a_temporary_folder_is_another_user_s(field):
 @attack("user")
 def a_listed_folder_is_exchanged_behind_a_look(field):
     """Whether others can write by a list is asked of the folder that is open, whatever has its name by then."""
-    listed = field.path("listed")
-    os.mkdir(listed)
+    listed = field.shared("listed")
     let_write(listed, field.user.pw_uid)
     with acting_before(0, None, ("getxattr",)) as asked:
         if not files.is_foreign(listed):

@@ -5,6 +5,8 @@ import signal
 import subprocess
 import threading
 import time
+from contextlib import suppress
+from pathlib import Path
 
 from attacking.ground import attack, wrong_status
 from probing.program import TOP, program
@@ -18,17 +20,34 @@ TRIES = 400
 PATIENCE = 5
 
 
+def writing(field):
+    """What the program writes, as words with SAVED for the name, and what they read."""
+    start = field.blank()
+    text = field.run("show", "--full", "--data", "all", start).stdout
+    archive = field.run("export", start).stdout
+    record = field.put("opened", OPENED)
+    return {"blank": (["blank", "SAVED"], b""), "raise": (["raise", start, "SAVED"], b""),
+            "make": (["make", "SAVED"], text), "import": (["import", "SAVED"], archive),
+            "--out": (["audit", "--tree", start, "--transcript", record, "--out", "SAVED"], b""),
+            "infer": (["infer", "--transcript", record, "SAVED"], b""),
+            "--save": (["serve", "--tree", start, "--save", "SAVED"], HELLO),
+            "--record": (["serve", "--tree", start, "--record", "SAVED"], HELLO)}
+
+
+def write(field, given, name, *more, **options):
+    words, asked = given
+    return field.run(*[name if it == "SAVED" else it for it in words], *more, input=asked, **options)
+
+
 def swap(folder, victim, name):
     """Swaps each new file of a folder for a link to the victim's, as soon as its name is there."""
     os.chdir(folder)
     while True:
         for it in os.listdir("."):
             if it.startswith(f"{name}.new"):
-                try:
+                with suppress(OSError):
                     os.symlink(victim, ".swap")
                     os.rename(".swap", it)
-                except OSError:
-                    pass
 
 
 def large(size):
@@ -38,33 +57,25 @@ def large(size):
 @attack("user")
 def a_link_swapped_in_gives_away_a_file(field):
     """Root saves to a file of another user, who swaps the new file beside it for a link to one of root's."""
-    theirs = field.path("theirs")
-    os.mkdir(theirs)
-    os.chown(theirs, field.user.pw_uid, field.user.pw_gid)
+    theirs = field.shared("theirs", 0o755, field.user.pw_uid)
     saved, victim = os.path.join(theirs, "saved.tree"), field.put("victim", b"of root", 0o600)
-    swapper = field.start_as_user(swap, theirs, victim, "saved.tree")
-    try:
+    with field.beside(swap, theirs, victim, "saved.tree"):
         for number_of_try in range(TRIES):
             if os.path.lexists(saved):
                 os.remove(saved)
-            with open(saved, "wb"):
-                pass
-            os.chown(saved, field.user.pw_uid, field.user.pw_gid)
+            field.theirs(field.put(saved, b""))
             field.run("blank", saved)
             found = os.lstat(victim)
             state = (found.st_uid, found.st_gid, found.st_mode & 0o7777, field.read("victim"))
             if state != (0, 0, 0o600, b"of root"):
                 yield f"after {number_of_try + 1} tries root's file has uid {found.st_uid}, mode {found.st_mode:o}"
                 return
-    finally:
-        os.kill(swapper, signal.SIGKILL)
-        os.waitpid(swapper, 0)
 
 
 @attack("user")
 def a_group_that_cannot_be_kept_reads_on(field):
     """A user saves over a file of a group that is not theirs: its permissions are not for the group of the user."""
-    os.chown(field.folder, field.user.pw_uid, field.user.pw_gid)
+    field.theirs(field.folder)
     saved = field.put("saved.tree", b"old", 0o664)
     os.chown(saved, field.user.pw_uid, 0)
     yield from wrong_status(field.run("blank", saved, as_user=True), 0)
@@ -77,22 +88,14 @@ def a_group_that_cannot_be_kept_reads_on(field):
 def a_file_of_another_user_says_who_reads_what_is_saved(field):
     """A user saves over a file of root, which all may read and write: what is saved is the user's, and for nobody else
     unless an option says so."""
-    os.chown(field.folder, field.user.pw_uid, field.user.pw_gid)
-    start = field.blank()
-    text = field.run("show", "--full", "--data", "all", start).stdout
-    archive = field.run("export", start).stdout
-    record = field.put("opened", OPENED)
-    runs = {"blank": (["blank", "SAVED"], b""), "raise": (["raise", start, "SAVED"], b""),
-            "make": (["make", "SAVED"], text), "import": (["import", "SAVED"], archive),
-            "--out": (["audit", "--tree", start, "--transcript", record, "--out", "SAVED"], b""),
-            "--save": (["serve", "--tree", start, "--save", "SAVED"], HELLO)}
+    field.theirs(field.folder)
+    runs = writing(field)
     for mode, words in ((0o600, []), (0o644, ["--mode", "0644"])):
-        for name, (given, asked) in runs.items():
+        for name in ("blank", "raise", "make", "import", "--out", "--save"):
             for group in (0, field.user.pw_gid):
                 saved = field.put(f"{name}{mode:o}-{group}", b"old", 0o666)
                 os.chown(saved, 0, group)
-                done = field.run(*[saved if it == "SAVED" else it for it in given], *words, input=asked, as_user=True)
-                yield from wrong_status(done, 0)
+                yield from wrong_status(write(field, runs[name], saved, *words, as_user=True), 0)
                 found = os.stat(saved)
                 state = (found.st_uid, found.st_gid, found.st_mode & 0o7777)
                 if state != (field.user.pw_uid, field.user.pw_gid, mode):
@@ -103,9 +106,9 @@ def a_file_of_another_user_says_who_reads_what_is_saved(field):
 def a_file_of_another_user_takes_the_record(field):
     """A user records into a file or a pipe of root, which all may read and write: nothing of the session is there, and
     none is served. Into a file of the user's own it is."""
-    os.chown(field.folder, field.user.pw_uid, field.user.pw_gid)
+    field.theirs(field.folder)
     start, theirs, own = field.blank(), field.put("theirs", b"old", 0o666), field.put("own", b"old", 0o640)
-    os.chown(own, field.user.pw_uid, field.user.pw_gid)
+    field.theirs(own)
     pipe = field.path("pipe")
     os.mkfifo(pipe)
     os.chmod(pipe, 0o666)
@@ -131,10 +134,7 @@ def a_pipe_of_another_user_holds_up_a_session(field):
     root, whoever owns its folder, and behind a link. One's own is recorded into."""
     start, pipes = field.blank(), {}
     for number, (owner, mode) in enumerate(((0, 0o1777), (field.user.pw_uid, 0o755), (0, 0o755))):
-        folder = field.path(f"folder-{number}")
-        os.mkdir(folder)
-        os.chmod(folder, mode)
-        os.chown(folder, owner, owner)
+        folder = field.shared(f"folder-{number}", mode, owner)
         for user in (0, field.user.pw_uid):
             pipe = os.path.join(folder, f"of-{user}")
             os.mkfifo(pipe)
@@ -162,13 +162,11 @@ def a_pipe_of_another_user_holds_up_a_session(field):
 @attack("user", "tar")
 def an_archive_makes_a_program_of_root(field):
     """What a client uploaded with set-id bits has none, where root unpacks it as the documents have it."""
-    with open("/usr/bin/id", "rb") as file:
-        content = file.read()
+    content = Path("/usr/bin/id").read_bytes()
     field.put("end.tree", put(Tree([Entry(b"/id", FILE, content, permissions=0o4755)])))
     archive, recipes = field.run("export", "end.tree").stdout, []
     for document in ("README.md", "docs/USING.md", "docs/OPERATORS.md"):
-        with open(os.path.join(TOP, document), encoding="utf-8") as file:
-            said = re.findall(r"export \S+ \| tar -C result (-x.*)", file.read())
+        said = re.findall(r"export \S+ \| tar -C result (-x.*)", Path(TOP, document).read_text(encoding="utf-8"))
         for place, options in enumerate(said):
             made = field.path(f"{document.replace('/', '-')}{place}")
             os.mkdir(made)
@@ -196,20 +194,11 @@ def left_files_stop_a_save(field):
 @attack(is_small=True)
 def new_files_can_be_read_by_others(field):
     """With a umask of 0 the files that are made are for their user alone, unless an option says otherwise."""
-    start = field.blank()
-    text = field.run("show", "--full", "--data", "all", start).stdout
-    archive = field.run("export", start).stdout
-    record = field.put("opened", OPENED)
+    runs = writing(field)
     for mode, words in ((0o600, []), (0o644, ["--mode", "0644"])):
-        runs = {"blank": (["blank", "MADE"], b""), "raise": (["raise", start, "MADE"], b""),
-                "make": (["make", "MADE"], text), "import": (["import", "MADE"], archive),
-                "--out": (["audit", "--tree", start, "--transcript", record, "--out", "MADE"], b""),
-                "--save": (["serve", "--tree", start, "--save", "MADE"], HELLO),
-                "--record": (["serve", "--tree", start, "--record", "MADE"], HELLO)}
-        for name, (given, asked) in runs.items():
+        for name in ("blank", "raise", "make", "import", "--out", "--save", "--record"):
             made = field.path(f"{name}{mode:o}")
-            done = field.run(*[made if it == "MADE" else it for it in given], *words, input=asked, umask=0)
-            yield from wrong_status(done, 0)
+            yield from wrong_status(write(field, runs[name], made, *words, umask=0), 0)
             if os.path.exists(made) and os.stat(made).st_mode & 0o7777 != mode:
                 yield f"{name} {' '.join(words)}: mode {os.stat(made).st_mode & 0o7777:o}"
 
@@ -224,11 +213,9 @@ def a_file_is_read_while_it_is_written(field):
         while not done.is_set():
             for it in field.names():
                 if it.startswith("saved.tree.new"):
-                    try:
+                    with suppress(OSError):
                         found = os.stat(field.path(it))
-                    except OSError:
-                        continue
-                    seen.append((found.st_mode & 0o7777, found.st_size))
+                        seen.append((found.st_mode & 0o7777, found.st_size))
 
     watcher = threading.Thread(target=watch)
     watcher.start()

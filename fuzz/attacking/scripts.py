@@ -7,11 +7,13 @@ import resource
 import signal
 import subprocess
 import sys
+from pathlib import Path
 
-from attacking.ground import CLIENTS, SECONDS, attack
+from attacking.ground import CLIENTS, SECONDS, attack, environment
 from attacking.saving import HELLO, OPENED
 from probing.program import TOP, program
 from sftp3 import BEGUN, CLIENT, SERVER, init, put_records, request, status
+from trials.processes import limited
 
 COMMANDS = ("nightly", "page", "probe", "record", "recordd", "serve", "tree", "walk")
 SERVERS = ("servers/any", "servers/gesftpserver", "servers/openssh")
@@ -47,17 +49,10 @@ def ordinary(field):
     }
 
 
-def call(field, script, *words, **options):
-    """Runs a script to its end."""
-    environment = {**os.environ, "SFTPV3": program(), "COLUMNS": "200"}
-    return subprocess.run([os.path.join(CLIENTS, script), *words], cwd=field.folder, env=environment,
-                          timeout=SECONDS, **{"stdin": subprocess.DEVNULL, **options})
-
-
 def hostile_lines(field):
     """Yields scripts and command lines that have the hostile name in each place where a word can be."""
     for script, rest in ordinary(field).items():
-        told = call(field, script, "--help", stdout=subprocess.PIPE, text=True).stdout
+        told = field.call(script, "--help", env=environment(COLUMNS="200")).stdout.decode()
         audit = ["--audit", "--tree", "start.tree"] if script == "record" else []
         yield script, [f"--{NAME}", *rest]
         for option in [it for it, value in OPTION.findall(told) if value]:
@@ -86,7 +81,7 @@ def is_bad(line):
 def a_word_of_a_command_line_acts_on_a_terminal(field):
     """Whatever a word of a command line is, what a script says of it is lines without control characters."""
     for script, words in hostile_lines(field):
-        done = call(field, script, *words, stdout=subprocess.PIPE, stderr=subprocess.PIPE)
+        done = field.call(script, *words, env=environment(COLUMNS="200"))
         for line in (done.stdout + done.stderr).split(b"\n"):
             if is_bad(line):
                 yield f"{script} {ascii(words)}: {line[:200]!r}"
@@ -101,15 +96,9 @@ def redirected(words, files, to):
     return ["/bin/sh", "-c", f'exec "$@" {ways}', "sh", *words]
 
 
-def made(field, folder):
+def made(folder):
     """The names and the bytes of what a run left."""
-    found = {}
-    for place, _, names in os.walk(folder):
-        for it in names:
-            path = os.path.join(place, it)
-            with open(path, "rb") as file:
-                found[os.path.relpath(path, folder)] = file.read()
-    return found
+    return {str(it.relative_to(folder)): it.read_bytes() for it in Path(folder).rglob("*") if it.is_file()}
 
 
 def writing(field):
@@ -131,14 +120,13 @@ def left_by(field, script, words, shell_words):
     """The status of a run in a folder of its own, and what it left there, without times and numbers of processes."""
     folder = field.path("made")
     os.mkdir(folder)
-    environment = {**os.environ, "SFTPV3": program()}
     try:
-        done = subprocess.run(shell_words([os.path.join(CLIENTS, script), *words]), cwd=folder, env=environment,
+        done = subprocess.run(shell_words([os.path.join(CLIENTS, script), *words]), cwd=folder, env=environment(),
                               input=init(), stdout=subprocess.DEVNULL, stderr=subprocess.DEVNULL,
                               timeout=SECONDS)
         changing = rb"\d{4}-\d\d-\d\dT[\d:]+Z|\[\d+\]|\d+\.\d+|serve-[0-9a-f]{16}"
         left = {name: len(data) if name == "times" else re.sub(changing, b"", data)
-                for name, data in made(field, folder).items()}
+                for name, data in made(folder).items()}
         return done.returncode, left
     finally:
         subprocess.run(["rm", "-r", folder], check=True)
@@ -164,14 +152,12 @@ def a_limit_of_open_files_ends_in_a_traceback(field):
     lines = [(script, words, field.folder) for script, words in ordinary(field).items()]
     lines += [(script, words, field.path("made")) for script, words in writing(field)]
     lines += [(script, ["start.tree", "/bin/cat"], field.folder) for script in SERVERS]
-    environment = {**os.environ, "SFTPV3": program()}
     for most in (4, 5, 6, 7, 9):
         for script, words, folder in lines:
             # as the installed ones start
             call_of = ["/usr/bin/python3", "-IS", os.path.join(CLIENTS, script), *words]
-            done = subprocess.run(call_of, cwd=folder, env=environment, input=init(), capture_output=True,
-                                  timeout=SECONDS, preexec_fn=lambda it=most: resource.setrlimit(resource.RLIMIT_NOFILE,
-                                                                                                 (it, it)))
+            done = subprocess.run(call_of, cwd=folder, env=environment(), input=init(), capture_output=True,
+                                  timeout=SECONDS, preexec_fn=limited(resource.RLIMIT_NOFILE, most))
             is_said = done.stderr or "--log" in words or not done.returncode
             if b"Traceback" in done.stderr or b"Fatal" in done.stderr or not is_said:
                 yield f"{script} {' '.join(words[:3])}, {most} files: {done.returncode}, {done.stderr[-200:]!r}"
@@ -181,8 +167,7 @@ def a_limit_of_open_files_ends_in_a_traceback(field):
 def a_closed_descriptor_of_the_checkout_s_program(field):
     """The script `sftpv3` of the repository, too, gives the program three descriptors that are open."""
     os.mkdir(field.path("out"))
-    with open(os.path.join(TOP, "sftpv3"), "rb") as file:
-        script = field.put("sftpv3", file.read(), 0o755)
+    script = field.put("sftpv3", Path(TOP, "sftpv3").read_bytes(), 0o755)
     field.put("out/sftpv3.built", b"")
     looking = f"#!{sys.executable} -I\nimport os\nfor it in range(3):\n    os.fstat(it)\n"
     field.put("out/sftpv3", looking.encode(), 0o755)
@@ -235,14 +220,6 @@ def call_installed(field, script, words, **options):
                           **{"env": environment(), "cwd": field.folder, **options})
 
 
-def environment(**more):
-    return {**os.environ, "SFTPV3": program(), **more}
-
-
-def without_children():
-    signal.signal(signal.SIGCHLD, signal.SIG_IGN)
-
-
 def with_all_blocked():
     signal.pthread_sigmask(signal.SIG_BLOCK, signal.valid_signals())
 
@@ -254,19 +231,7 @@ def with_all_ignored():
 
 def without_files():
     signal.signal(signal.SIGXFSZ, signal.SIG_IGN)
-    resource.setrlimit(resource.RLIMIT_FSIZE, (0, 0))
-
-
-def with_small_files():
-    resource.setrlimit(resource.RLIMIT_FSIZE, (100, 100))
-
-
-def with_few_files():
-    resource.setrlimit(resource.RLIMIT_NOFILE, (12, 12))
-
-
-def without_permissions():
-    os.umask(0o777)
+    limited(resource.RLIMIT_FSIZE, 0)()
 
 
 def nowhere():
@@ -276,13 +241,13 @@ def nowhere():
 
 
 STATES = {
-    "SIGCHLD is ignored": {"preexec_fn": without_children},
+    "SIGCHLD is ignored": {"preexec_fn": lambda: signal.signal(signal.SIGCHLD, signal.SIG_IGN)},
     "all signals are blocked": {"preexec_fn": with_all_blocked},
     "all signals are ignored": {"preexec_fn": with_all_ignored},
     "no file may have a byte": {"preexec_fn": without_files},
-    "files may have 100 bytes": {"preexec_fn": with_small_files},
-    "few files may be open": {"preexec_fn": with_few_files},
-    "the mask is 0777": {"preexec_fn": without_permissions},
+    "files may have 100 bytes": {"preexec_fn": limited(resource.RLIMIT_FSIZE, 100)},
+    "few files may be open": {"preexec_fn": limited(resource.RLIMIT_NOFILE, 12)},
+    "the mask is 0777": {"preexec_fn": lambda: os.umask(0o777)},
     "the working directory is gone": {"preexec_fn": nowhere},
     "the language is another": {"env": {"LC_ALL": "tr_TR.ISO-8859-9", "LANGUAGE": "de", "PYTHONIOENCODING": "ascii"}},
     "Python is told otherwise": {"env": {"PYTHONOPTIMIZE": "2", "PYTHONSTARTUP": "/absent", "PYTHONWARNINGS": "error",
@@ -300,8 +265,7 @@ def tried(field, state, options, given):
     done = call_installed(field, script, [fresh if it == "FRESH" else it for it in words], **options)
     said = done.stdout
     if script == "page" and done.returncode == 0:
-        with open(fresh, "rb") as page:
-            said += page.read()
+        said += Path(fresh).read_bytes()
     is_as_ever = done.returncode == wanted and part in said
     if b"Traceback" in said or not is_as_ever and not (done.returncode == NONE and said):
         yield f"{state}: {script} {' '.join(words[:2])}: status {done.returncode}, not {wanted}: {said[-300:]!r}"

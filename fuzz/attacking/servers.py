@@ -6,10 +6,10 @@ import subprocess
 import time
 from contextlib import suppress
 
-from attacking.ground import CLIENTS, SECONDS, attack
-from attacking.links import shared
+from attacking.ground import SECONDS, attack, environment, words_of, wrong_status
 from probing.program import program
 from sftp3 import init
+from trials.processes import wait_until
 
 HELLO = init()
 
@@ -111,17 +111,17 @@ int main(void) {
 
 
 def built(field, name, text, *options):
-    """Compiles a text of C. Returns the path of what comes of it."""
+    """Compiles a text of C. Returns the path of what comes of it, which every user may run."""
     source, made = field.put(f"{name}.c", text.encode()), field.path(name)
     subprocess.run(["cc", "-o", made, source, *options], check=True, timeout=SECONDS)
+    os.chmod(made, 0o755)
     return made
 
 
 def session(field, *words, seconds=SECONDS):
     """Plays a session with a server in a folder of its own. Returns how that ended."""
-    environment = {**os.environ, "SFTPV3": program(), "TMPDIR": field.folder}
     return subprocess.run([field.script("servers/any"), field.blank(), *words], input=HELLO, capture_output=True,
-                          timeout=seconds, env=environment)
+                          timeout=seconds, env=environment(TMPDIR=field.folder))
 
 
 @attack("user", "cc")
@@ -136,9 +136,7 @@ def a_server_ends_other_processes(field):
         other.kill()
     if (done.returncode, done.stdout[:5]) != (7, b"\0\0\0\5\2"):
         yield f"status {done.returncode}, {done.stdout!r} {done.stderr[-300:]!r}"
-    done = session(field, server, "die")
-    if done.returncode != -6:
-        yield f"a server that aborts: status {done.returncode} {done.stderr[-300:]!r}"
+    yield from (f"a server that aborts: {it}" for it in wrong_status(session(field, server, "die"), -6))
 
 
 @attack("user", "cc")
@@ -166,10 +164,8 @@ def line_of_terminal(field, server):
     child, terminal = pty.fork()
     if child == 0:
         os.chdir(field.folder)
-        os.execve(words[0], words, {**os.environ, "SFTPV3": program(), "TMPDIR": field.folder})
-    until = time.monotonic() + SECONDS
-    while not field.read("replies") and time.monotonic() < until:
-        time.sleep(0.05)
+        os.execve(words[0], words, environment(TMPDIR=field.folder))
+    wait_until(lambda: field.read("replies"), SECONDS)
     time.sleep(0.5)
     os.write(terminal, b"ours\n")
     os.waitpid(child, 0)
@@ -184,10 +180,8 @@ def a_server_types_into_the_terminal(field):
     """Neither a server under test nor what its program names types commands into the terminal of root, or has it act by
     what is shown there."""
     auditor = built(field, "auditor.so", TYPIST, "-shared", "-fPIC", "-DAUDITS")
-    os.chmod(auditor, 0o755)
     naming = built(field, "naming", SERVER, f"-Wl,--audit={auditor}")
     for name, server in (("a server", built(field, "typist", TYPIST)), ("what its program names", naming)):
-        os.chmod(server, 0o755)
         line, shown = line_of_terminal(field, server)
         if line != b"ours":
             yield f"{name} typed {line!r}"
@@ -195,29 +189,18 @@ def a_server_types_into_the_terminal(field):
             yield f"{name}: the terminal shows {shown!r}"
 
 
-def words_of(process):
-    try:
-        with open(f"/proc/{process}/cmdline", "rb") as file:
-            return file.read().split(b"\0")
-    except OSError:
-        return []
-
-
 @attack("user", "cc", "ldd")
 def a_program_names_files_of_root_as_libraries(field):
     """What a program says that it needs is copied for its server only as far as every user can read it: no secret, no
     device and no pipe is."""
-    private = field.path("private")
-    os.mkdir(private, 0o700)
+    field.shared("private", 0o700)
     secret = field.put("private/secret", b"the secret of root")
     os.mkfifo(field.path("pipe"), 0o644)
     huge = field.put("huge", b"")
     os.truncate(huge, 1 << 40)
     for wish in (secret, "/dev/zero", field.path("pipe"), huge):
         auditor = built(field, "wisher.so", WISHER, "-shared", "-fPIC", f'-DWISH="{wish}"')
-        os.chmod(auditor, 0o755)
         server = built(field, "showing", SHOWING, f"-Wl,--audit={auditor}")
-        os.chmod(server, 0o755)
         try:
             done = session(field, server, f"/.sftpv3-start/{os.path.basename(wish)}", seconds=20)
         except subprocess.TimeoutExpired:
@@ -233,9 +216,7 @@ def a_program_names_files_of_root_as_libraries(field):
 def a_program_runs_where_its_libraries_are_looked_for(field):
     """A program that names a library for ld.so to run has no rights of root there."""
     told = field.put("told", b"", 0o666)
-    os.chmod(told, 0o666)
     auditor = built(field, "auditor.so", AUDITOR, "-shared", "-fPIC", f'-DTOLD="{told}"')
-    os.chmod(auditor, 0o755)
     server = built(field, "server", SERVER, f"-Wl,--audit={auditor}")
     for mode in (0o755, 0o711):
         os.chmod(server, mode)
@@ -244,14 +225,12 @@ def a_program_runs_where_its_libraries_are_looked_for(field):
             yield f"mode {mode:o}: it ran as root"
             return
     os.chmod(server, 0o755)
-    hidden = field.path("hidden")
-    os.mkdir(hidden, 0o700)
+    hidden = field.shared("hidden", 0o700)
     os.rename(built(field, "plain", SERVER), f"{hidden}/plain")
     for mode, wanted in ((0o755, 7), (0o711, 7), (0o700, 3)):
         os.chmod(f"{hidden}/plain", mode)
-        done = session(field, f"{hidden}/plain")
-        if done.returncode != wanted:
-            yield f"a program in a folder of root, mode {mode:o}: status {done.returncode} {done.stderr[-300:]!r}"
+        yield from (f"a program in a folder of root, mode {mode:o}: {it}" for it in wrong_status(
+            session(field, f"{hidden}/plain"), wanted))
 
 
 def go_server(field, variable, home):
@@ -259,10 +238,9 @@ def go_server(field, variable, home):
     built = field.path("built")
     with suppress(FileNotFoundError):
         os.remove(built)
-    done = subprocess.run([os.path.join(CLIENTS, "servers/go-pkg-sftp"), field.path("start.tree")], input=HELLO,
-                          capture_output=True, timeout=SECONDS,
-                          env={**os.environ, "SFTPV3": program(), "BUILT": built, variable: home,
-                               "PATH": f"{field.path('tools')}:{os.environ['PATH']}"})
+    done = field.call("servers/go-pkg-sftp", field.path("start.tree"), input=HELLO,
+                      env=environment(**{"BUILT": built, variable: home,
+                                         "PATH": f"{field.path('tools')}:{os.environ['PATH']}"}))
     return done, os.path.exists(built)
 
 
@@ -274,7 +252,7 @@ def a_home_of_another_user_has_the_server_that_root_starts(field):
     field.put("tools/go", GO.encode(), 0o755)
     for variable, owner, mode in (("HOME", field.user.pw_uid, 0o755), ("HOME", 0, 0o777),
                                   ("XDG_CACHE_HOME", field.user.pw_uid, 0o700), ("HOME", 0, 0o700)):
-        home = shared(field, f"{variable}-{owner}-{mode:o}", mode, owner)
+        home = field.shared(f"{variable}-{owner}-{mode:o}", mode, owner)
         cache = os.path.join(home, ".cache/sftpv3" if variable == "HOME" else "sftpv3")
         if mode != 0o700 or owner:
             os.makedirs(cache)

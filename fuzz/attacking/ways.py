@@ -29,7 +29,7 @@ class Scene:
             make(os.path.join(it, name))
         os.symlink(self.theirs, f"{self.home}/.link")
         for it in ("", "/way", "/way/below", "/.link"):
-            os.chown(self.home + it, field.user.pw_uid, field.user.pw_gid, follow_symlinks=False)
+            field.theirs(self.home + it)
         self.name = os.path.join(self.home, "way/below", name)
         self.before = self.state()
 
