@@ -604,11 +604,11 @@ def many_names_with_one_beginning_take_all_time(field):
 
 
 @attack("user")
-def an_empty_record_has_another_name(field):
-    """What is said of a record, and kept beside it, has its name, be it empty."""
+def a_record_of_another_kind_has_another_name(field):
+    """What is said of a record, and kept beside it, has its name, whatever file it is."""
     nights, name = Nights(field, field.user), record_name(field.user)
-    nights.put(name, b"", field.user.pw_uid)
-    yield from wrong(nights.run(), 1, f"  sftpv3: {name} is empty", without=["/proc/"])
+    nights.put(name, b"SFTREE01", field.user.pw_uid)
+    yield from wrong(nights.run(), 1, f"  sftpv3: {name} is a tree file", without=["/proc/"])
     for kept in nights.kept("refused"):
         with open(kept, "rb") as file:
             if b"/proc/" in file.read():
