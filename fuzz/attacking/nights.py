@@ -584,6 +584,18 @@ def an_empty_record_has_another_name(field):
         yield f"{verdicts} are kept, or name a descriptor"
 
 
+@attack("user")
+def a_record_of_another_kind_has_another_name(field):
+    """What is said of a record, and kept beside it, has its name, whatever file it is."""
+    nights, name = Nights(field, field.user), record_name(field.user)
+    nights.put(name, b"SFTREE01", field.user.pw_uid)
+    yield from wrong(nights.run(), 1, f"  sftpv3: {name} is a tree file", without=["/proc/"])
+    for kept in nights.kept("refused"):
+        with open(kept, "rb") as file:
+            if b"/proc/" in file.read():
+                yield f"{kept} names a descriptor"
+
+
 @attack("user", "mount")
 def a_disk_is_full(field):
     """A record that has no room where it is kept stays where it is, whole, and nothing cut is kept."""
