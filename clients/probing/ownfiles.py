@@ -5,10 +5,11 @@ over words of its command. So a command without `{tree}` needs a tree that the u
 before anything is changed. It is looked at again before a second session, which would find what the first one left.
 """
 import sftp3
+from paging import packets
 from probing import options, plans, sessions
 
-# How many READDIRs look at the root.
-READINGS = 8
+# The ids of the READDIRs that look at the root.
+READDIRS = range(2, 10)
 
 NO_TREE = ("neither the command nor --reset has {tree}, so nobody knows which files the server has, and sessions "
            "change and remove files: put {tree} where the server takes a tree file, or name the tree that it always "
@@ -18,16 +19,15 @@ NO_TREE = ("neither the command nor --reset has {tree}, so nobody knows which fi
 def looking():
     """The steps of a session that lists the root."""
     root = plans.Step(1, "OPENDIR", [b"/"])
-    readings = [plans.Step(2 + number, "READDIR", [root.opened()]) for number in range(READINGS)]
-    return [root, *readings, plans.Step(2 + READINGS, "CLOSE", [root.opened()])]
+    readings = [plans.Step(number, "READDIR", [root.opened()]) for number in READDIRS]
+    return [root, *readings, plans.Step(READDIRS.stop, "CLOSE", [root.opened()])]
 
 
 def names_in(packet):
-    """The names of a NAME; none of another packet."""
+    """The names of a NAME that answers one of the READDIRs; none of another packet."""
     fields = sftp3.Fields(packet[4:])
-    if fields.byte() != sftp3.NAME:
+    if fields.byte() != sftp3.NAME or fields.uint32() not in READDIRS:
         return
-    fields.uint32()
     yield from (name for name, _, _ in fields.names())
 
 
@@ -43,7 +43,7 @@ def shown(session):
 
 
 def shown_as(name):
-    return name.decode(errors="backslashreplace")
+    return packets.quoted(name, packets.SHORT)
 
 
 class Root:
@@ -87,7 +87,7 @@ class Root:
         if left:
             advice = "--reset does not put them back" if self.server.reset else \
                 "give --reset a command that puts them back, or {folder}"
-            raise options.Wrong(f'the server\'s "/" has "{shown_as(left[0])}", which the first session left there, and '
+            raise options.Wrong(f'the server\'s "/" has {shown_as(left[0])}, which the first session left there, and '
                                 f"each session has to start from the files of the tree: {advice}")
 
     def advice(self):
@@ -104,6 +104,6 @@ def difference(found, own, is_given):
     lacks_many = 2 * len(missing) > len(own) if is_given else bool(missing)
     if not foreign or (own and not lacks_many):
         return None
-    lacks = f', and lacks "{shown_as(missing[0])}"' if missing else ""
-    return (f'the server\'s "/" has "{shown_as(foreign[0])}", which the tree has not{lacks}: it does not start from '
+    lacks = f", and lacks {shown_as(missing[0])}" if missing else ""
+    return (f'the server\'s "/" has {shown_as(foreign[0])}, which the tree has not{lacks}: it does not start from '
             "the files of the tree, and the sessions would change and remove those that it has")

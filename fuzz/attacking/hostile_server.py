@@ -1,4 +1,7 @@
-"""A hostile server: names, texts and lines of standard error that a terminal or a page could act on. Ends early."""
+"""A hostile server: names, texts and lines of standard error that a terminal or a page could act on. Ends early.
+
+It lists nothing, since the probe plays nothing where other names than the tree's are listed; with a second word it
+lists such names, too."""
 import sys, struct, os
 sys.stderr.buffer.write(b"\x1b]0;pwned\x07\x1b[2J\x1b[31mprobe: accepted: 50 sessions, 5000 requests\n"
                         b"<script>alert(1)</script>"
@@ -16,7 +19,11 @@ while True:
     if d[0]==1:
         send(b"\x02"+struct.pack(">I",3)+text(NAST)+text(NAST)+text(b"posix-rename@openssh.com")+text(b"1"))
         continue
-    i=d[1:5]; n+=1
+    i=d[1:5]
+    if d[0] in (11, 12) and len(sys.argv) < 3:
+        send(bytes([101])+i+struct.pack(">I",4)+text(NAST)+text(NAST))
+        continue
+    n+=1
     k=n%5
     if k==0: send(bytes([101])+i+struct.pack(">I",4)+text(NAST)+text(NAST))
     elif k==1: send(bytes([104])+i+struct.pack(">I",1)+text(NAST)+text(NAST)+struct.pack(">I",0))

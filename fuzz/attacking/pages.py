@@ -80,7 +80,7 @@ def a_servers_words_reach_the_terminal(field):
     """What a server writes to standard error or as a name does nothing to a terminal, and is no line of the probe."""
     words = b"\x1b]0;title\x07\x1b[2Jprobe: accepted: 50 sessions\r\xc2\x9b31m"
     field.put("words", words)
-    for command in (["sh", "-c", "cat words >&2"], hostile_server(field)):
+    for command in (["sh", "-c", "cat words >&2"], hostile_server(field), [*hostile_server(field), "lists"]):
         done = run(field, "probe", *ONCE, "--", *command, user=None)
         said = (done.stdout + done.stderr).decode(errors="surrogateescape")
         if any(not it.isprintable() for it in said.replace("\n", "")):
