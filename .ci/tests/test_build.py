@@ -83,6 +83,53 @@ class Failing(unittest.TestCase):
                     self.assertEqual(module.main([folder, "sftpv3"]), 0)
 
 
+# A stand-in for `rt` whose crates are built on each other in three ways, and count how often a sum is taken.
+RT = """#!/usr/bin/env python3
+import os, sys
+sys.path.insert(0, os.path.dirname(os.path.realpath(__file__)))
+import rtlib
+def main(words):
+    rtlib.TOP.stamp()
+    rtlib.TOP.stamp()
+    print(*words, *rtlib.taken)
+    return 7
+if __name__ == "__main__":
+    sys.exit(main(sys.argv[1:]))
+"""
+RTLIB = """taken = []
+class Crate:
+    def __init__(self, name, *below):
+        self.name, self.below = name, below
+    def stamp(self):
+        taken.append(self.name)
+        return [it.stamp() for it in self.below]
+LOW = Crate("low")
+TOP = Crate("top", Crate("left", LOW), Crate("right", LOW))
+"""
+
+
+class Sums(unittest.TestCase):
+    """`.ci/rt`, with scripts in place of the toolchain's."""
+
+    def run_with(self, **files: str) -> tuple[int, str]:
+        with tempfile.TemporaryDirectory() as folder:
+            for name, text in files.items():
+                Path(folder, name.replace("_", ".")).write_text(text)
+            Path(folder, "rt").chmod(0o755)
+            path = f"{folder}:{os.environ['PATH']}"
+            ran = subprocess.run([FOLDER / "rt", "lib", "--jobs", "2"], env={**os.environ, "PATH": path}, text=True,
+                                 stdin=subprocess.DEVNULL, stdout=subprocess.PIPE, check=False)
+            return ran.returncode, ran.stdout
+
+    def test_each_sum_is_taken_once(self):
+        self.assertEqual(self.run_with(rt=RT, rtlib_py=RTLIB), (7, "lib --jobs 2 top left low right\n"))
+
+    def test_an_rt_without_sums_runs_as_it_is(self):
+        self.assertEqual(self.run_with(rt="#!/bin/sh\necho $0 $* | sed s,.*/,,\nexit 3\n"), (3, "rt lib --jobs 2\n"))
+        nothing = "taken = ()\nclass Crate:\n    pass\nTOP = type('', (), {'stamp': lambda self: None})()\n"
+        self.assertEqual(self.run_with(rt=RT, rtlib_py=nothing), (7, "lib --jobs 2\n"))
+
+
 class Callers(unittest.TestCase):
     """`./sftpv3` and `./install`, with a script in place of `.ci/build`."""
 
