@@ -10,6 +10,8 @@ from editing import verdicts
 from editing.blocks import Edit, EditsError
 from editing.verdicts import Commands
 
+# The toolchain's `rt`, which is quicker this way.
+RT = str(Path(__file__).resolve().parents[1] / "rt")
 # The edits that were refused, and why; or None if there was no time.
 Refusals = dict[Edit, str] | None
 
@@ -60,7 +62,7 @@ class Attempts:
         self.crate = copy / "crates" / name
 
     def check(self, *words: str) -> list[str] | None:
-        return self.commands.run_until(["rt", "check", *jobs(), *words], self.crate, self.end)
+        return self.commands.run_until([RT, "check", *jobs(), *words], self.crate, self.end)
 
     def together(self, group: dict[str, Edit]) -> Refusals:
         """Tries edits of different functions in one check."""
