@@ -255,6 +255,19 @@ class Helps(unittest.TestCase):
         self.assertGreater(len(scripts()), 30)
         self.no_mistakes(wrong, scripts())
 
+    def test_help_builds_no_program(self):
+        environment = {it: text for it, text in os.environ.items() if it != "SFTPV3"}
+        with tempfile.TemporaryDirectory() as room:
+            refusing = Path(room) / "rt"
+            refusing.write_text("#!/bin/sh\nexit 3\n")
+            refusing.chmod(0o755)
+            environment["PATH"] = f"{room}:{environment['PATH']}"
+
+            def mistake(script):
+                ran = run([script, "--help"], env=environment, stdout=subprocess.PIPE)
+                return "" if ran.returncode == 0 and not ran.stderr else f"{ran.returncode}, {ran.stderr[-200:]!r}"
+            self.no_mistakes(mistake, scripts())
+
     def test_settings_of_python_change_no_command(self):
         with tempfile.TemporaryDirectory() as room:
             for name in ("argparse", "os", "recording", "subprocess", "tempfile"):

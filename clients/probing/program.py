@@ -1,5 +1,6 @@
 """Finds the program `sftpv3`: in the repository, where ./sftpv3 builds it, or installed, beside these modules."""
 import functools
+import itertools
 import os
 import subprocess
 import sys
@@ -27,19 +28,28 @@ def in_repository():
     return os.path.exists(os.path.join(TOP, ".ci", "build"))
 
 
+def only_helps():
+    """Whether this script is asked for its help, before the words of another command."""
+    return not {"-h", "--help"}.isdisjoint(itertools.takewhile(lambda word: word != "--", sys.argv[1:]))
+
+
 @functools.cache
 def program():
-    """The program that SFTPV3 names, else the installed one, else the one that ./sftpv3 builds."""
+    """The program that SFTPV3 names, else the installed one, else the one that ./sftpv3 builds: nobody waits for that
+    to be told what a script is for."""
     if "SFTPV3" in os.environ:
         return os.path.realpath(os.environ["SFTPV3"])
     if not in_repository():
         if not os.access(INSTALLED, os.X_OK):
             raise NotBuilt(f"there is no program {INSTALLED}")
         return INSTALLED
+    built = os.path.join(TOP, "out", "sftpv3")
+    if only_helps():
+        return built
     done = subprocess.run([os.path.join(TOP, "sftpv3"), "--version"], stdout=subprocess.DEVNULL, check=False)
     if done.returncode != 0:
         raise NotBuilt(f"./sftpv3 did not build the program: it ended with status {done.returncode}")
-    return os.path.join(TOP, "out", "sftpv3")
+    return built
 
 
 def called(name):
