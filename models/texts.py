@@ -38,7 +38,10 @@ def print_packets(*packets):
 
 
 def words_of(usage):
-    """The words of the command line; where there are none, it prints the usage and ends the script."""
+    """The words of the command line; where there are none, or for `--help`, it prints the usage and ends the script."""
+    if sys.argv[1:] in (["-h"], ["--help"]):
+        print(usage)
+        sys.exit(0)
     if not sys.argv[1:]:
         print(usage, file=sys.stderr)
         sys.exit(2)

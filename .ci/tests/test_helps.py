@@ -24,6 +24,10 @@ def scripts() -> list[Path]:
                   if it.is_file() and os.access(it, os.X_OK) and it.read_bytes().startswith(b"#!"))
 
 
+def models() -> list[Path]:
+    return [it for it in (TOP / "models").iterdir() if it.is_file() and os.access(it, os.X_OK)]
+
+
 # Runs a script that gets SIGINT when it imports the Nth module behind recording.standard, which every command begins
 # with; with 0 it prints how many these are.
 STRIKES = """
@@ -266,7 +270,7 @@ class Helps(unittest.TestCase):
             def mistake(script):
                 ran = run([script, "--help"], env=environment, stdout=subprocess.PIPE)
                 return "" if ran.returncode == 0 and not ran.stderr else f"{ran.returncode}, {ran.stderr[-200:]!r}"
-            self.no_mistakes(mistake, scripts())
+            self.no_mistakes(mistake, scripts() + models())
 
     def test_settings_of_python_change_no_command(self):
         with tempfile.TemporaryDirectory() as room:
