@@ -126,6 +126,8 @@ class Sums(unittest.TestCase):
 
     def test_an_rt_without_sums_runs_as_it_is(self):
         self.assertEqual(self.run_with(rt="#!/bin/sh\necho $0 $* | sed s,.*/,,\nexit 3\n"), (3, "rt lib --jobs 2\n"))
+        unhashable = RTLIB.replace("class Crate:\n", "class Crate:\n    __hash__ = None\n")
+        self.assertEqual(self.run_with(rt=RT, rtlib_py=unhashable)[1].count("low"), 4)
         nothing = "taken = ()\nclass Crate:\n    pass\nTOP = type('', (), {'stamp': lambda self: None})()\n"
         self.assertEqual(self.run_with(rt=RT, rtlib_py=nothing), (7, "lib --jobs 2\n"))
 
