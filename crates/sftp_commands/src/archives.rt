@@ -30,7 +30,7 @@ use std::{fmt, io};
 
 /// The message where no archive can come.
 const NO_ARCHIVE: &str =
-    "standard input is a terminal; give it an archive: tar -C FOLDER -c . | sftpv3 import FILE";
+    "standard input is a terminal; give it an archive: tar -C FOLDER -c . | sftpv3 import TREE";
 
 /// The message where nobody could read the archive.
 const NO_READER: &str =

@@ -56,6 +56,7 @@ pub(crate) enum Format {
     Zip,
     SevenZip,
     Page,
+    Packets,
     Text,
 }
 
@@ -76,6 +77,7 @@ impl Format {
             Format::Zip => "zip",
             Format::SevenZip => "7z",
             Format::Page => "html",
+            Format::Packets => "packets",
             Format::Text => "text",
         }
     }
@@ -96,6 +98,7 @@ impl Format {
             Format::Zip => "an archive of zip",
             Format::SevenZip => "an archive of 7z",
             Format::Page => "a page of HTML",
+            Format::Packets => "packets without the marks of a recorder",
             Format::Text => "a text as 'show' prints it",
         }
     }
@@ -165,6 +168,12 @@ fn advice(format: Format, taken_for: Role) -> &'static str {
         (Format::Archive, Role::Tree) => ", not a tree file; 'sftpv3 import' makes one of it",
         (Format::Text, Role::Tree) => ", not a tree file; 'sftpv3 make' makes one of it",
         (Format::Text, Role::Transcript) => ", not a transcript; 'sftpv3 make' makes one of it",
+        (Format::Archive, Role::Either) => {
+            ", neither a transcript nor a tree file; 'sftpv3 import' makes a tree file of it"
+        }
+        (Format::Text, Role::Either) => {
+            ", neither a transcript nor a tree file; 'sftpv3 make' makes one of it"
+        }
         _ => taken_for.lack(),
     }
 }
@@ -243,6 +252,8 @@ fn foreign_format_of(start: &[u8]) -> Option<Format> {
         Some(Format::SevenZip)
     } else if is_page(start) {
         Some(Format::Page)
+    } else if is_packets(start) {
+        Some(Format::Packets)
     } else {
         compression_of(start)
     }
@@ -273,6 +284,12 @@ fn is_page(start: &[u8]) -> bool {
         || start.starts_with(b"<!doctype html")
         || start.starts_with(b"<html")
         || start.starts_with(b"<HTML")
+}
+
+/// Whether a file that begins so has packets as they are sent: an INIT or a VERSION of version 3 in front.
+fn is_packets(start: &[u8]) -> bool {
+    let packet = start.get(4..).unwrap_or(&[]);
+    packet.starts_with(b"\x01\0\0\0\x03") || packet.starts_with(b"\x02\0\0\0\x03")
 }
 
 /// Whether a file that begins so is the text of a tree file or of a transcript.

@@ -94,13 +94,10 @@ fn range_of<'a>(alloc: Global, text: Option<&str>) -> Result<Range, Failure<'a>>
     }
 }
 
-/// The records of `A-B`, of `A-`, `-B` or `A`.
+/// The records of `A-B`, if A is at most B, of `A-`, `-B` or `A`.
 fn range_in(text: &str) -> Option<Range> {
     match text.split_once('-') {
-        Some((first, last)) => Some(Range {
-            first: number_or(first, 1)?,
-            last: number_or(last, u64::MAX)?,
-        }),
+        Some((first, last)) => rising(number_or(first, 1)?, number_or(last, u64::MAX)?),
         None => {
             let number: u64 = text.parse().ok()?;
             Some(Range {
@@ -108,6 +105,15 @@ fn range_in(text: &str) -> Option<Range> {
                 last: number,
             })
         }
+    }
+}
+
+/// The range of these numbers, unless the first is above the last.
+fn rising(first: u64, last: u64) -> Option<Range> {
+    if first <= last {
+        Some(Range { first, last })
+    } else {
+        None
     }
 }
 
@@ -123,7 +129,7 @@ fn number_or(text: &str, without: u64) -> Option<u64> {
 fn bad_range(alloc: Global, text: &str) -> Result<String, AllocError> {
     let text = Named(text);
     format!(in alloc;
-        "error: invalid value '{text}' for '--records <A-B>': neither a number, nor two with '-' between them\n{MORE}"
+        "error: invalid value '{text}' for '--records <A-B>': neither a number, nor two rising ones with '-' between them\n{MORE}"
     )
 }
 

@@ -150,7 +150,7 @@ pub(crate) const AUDIT: &[Argument] = &[
     (
         "keep-going",
         Form::Flag,
-        "Go on behind wrong replies that changed nothing, and print all findings",
+        "Go on after wrong replies that changed nothing, and print all findings",
     ),
     (
         "most",
@@ -274,7 +274,7 @@ pub(crate) const SHOW: &[Argument] = &[
     (
         "pairs",
         Form::Flag,
-        "Only requests, each with its reply behind it, in the order of the replies",
+        "Only requests, each followed by its reply, in the order of the replies",
     ),
     (
         "overtaken",
@@ -317,7 +317,7 @@ pub(crate) const IMPORT: &[Argument] = &[
     MEMORY,
     MODE,
     NO_SYNC,
-    ("file", FILE, "The tree file to write"),
+    ("file", Form::Place("TREE"), "The tree file to write"),
 ];
 
 pub(crate) const EXPORT: &[Argument] = &[PROGRESS, ("file", FILE, "The tree file")];

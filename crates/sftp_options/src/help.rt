@@ -128,7 +128,7 @@ That of a tree file begins with the lines of its head and of its root, and has a
   L \"/l\" \"f\"
 
 The head may have limits, four or five. Below five of them, kinds in small letters have the times of access and of
-modification behind the permissions, and a file of 2^32 bytes or more has the kind G, or g with times:
+modification after the permissions, and a file of 2^32 bytes or more has the kind G, or g with times:
 
   home \"/\" uid 0 gid 0 limits 65536 16777216 32768 256 288230376151711744 entries 1
   D \"/\" 0 0 0755
@@ -147,7 +147,7 @@ bytes of a file, bytes that one READ gives, open handles), and the number of ent
 number, its kind (D directory, F file, H further name of a file, L link) and its path; then the uid, gid and permissions
 of a directory or a file, the length of a file in bytes, the number of the entry that a further name belongs to, or the
 target of a link. If anything has times, or a limit is above the highest of 'raise', there is a fifth limit, the bytes
-of all files together. Then kinds in small letters have the times of access and of modification behind the permissions,
+of all files together. Then kinds in small letters have the times of access and of modification after the permissions,
 in seconds since 1970, and G and g are files of 2^32 bytes or more:
 
   1 f \"/f\" 0 0 0644 2 3 3
@@ -204,7 +204,7 @@ pub(crate) const ABOUT_IMPORT: &str =
 
 pub(crate) const AFTER_IMPORT: &str = "The tree of the folder DIR:
 
-  tar -C DIR -c . | sftpv3 import FILE
+  tar -C DIR -c . | sftpv3 import TREE
 
 The archive may be ustar, or in the formats of POSIX's pax or of GNU tar, in any order in which a hard link comes after
 its file. The last entry of a path counts. The file is replaced whole, and only if the archive is taken.
@@ -229,7 +229,7 @@ The memory is looked at before each entry, and before more of a long one is read
 
 The tree file has the times of modification of directories and files, and those of access that extended headers give;
 times before 1970 are 0, and those after 2106 the last second that a tree file holds. Links have no times. With
---no-times, and if all are 0, the tree file has none, and programs of before read it.
+--no-times, and if all are 0, the tree file has none, and earlier versions read it.
 
   --special refuse  an archive with a device or a FIFO is refused, as without the option
   --special skip    they are left out
@@ -266,7 +266,7 @@ pub(crate) const AFTER_RAISE: &str = "All else of the tree is the same. The limi
 
 A limit on the bytes of all files together stays with --to highest, and goes with --to most and --to fit.
 A limit of TREE that is above the highest stays. With --to fit, the limits are the usual ones, or as many entries, and
-as many bytes of a file, as TREE has above them. Programs of before do not read a FILE with a limit above the highest.
+as many bytes of a file, as TREE has above them. Earlier versions do not read a FILE with a limit above the highest.
 
 FILE is replaced whole, and may be TREE.";
 
@@ -297,7 +297,7 @@ come after the oldest unanswered one and have replies, which nobody can judge; w
 'unanswered'. --out writes the tree after the N requests. A session in which each request has its reply gets the line
 that it gets without --cut. Every refusal but Unanswered stays.
 
-With --keep-going, the audit goes on behind a wrong reply that changed nothing, as if it and its request were not there.
+With --keep-going, the audit goes on after a wrong reply that changed nothing, as if it and its request were not there.
 Each finding has a line, and the last line says how many there are:
 
   N findings, accepted M requests          the rest that was judged is right, if what was left out changed nothing;
@@ -308,7 +308,7 @@ Each finding has a line, and the last line says how many there are:
 
 A wrong reply changed nothing if its request only looks, if it says that the request was refused, if it ends a CLOSE, if
 it gives a handle for an OPENDIR or for an OPEN without CREAT and TRUNC, or if no request has its id. What hangs on it
-is left out, too, and counts as not judged: all requests through a handle that it gives, and the READDIRs behind a wrong
+is left out, too, and counts as not judged: all requests through a handle that it gives, and the READDIRs after a wrong
 READDIR, until a reply gives the handle anew. Nobody knows what these changed: a WRITE through such a handle may have
 made a later reply right that is found wrong, or wrong that is not. Records have the numbers that they have in the
 transcript, which is read again for each finding, so it cannot be a pipe. A session with a finding is refused: the

@@ -29,7 +29,7 @@ pub(crate) const SPECIAL: Argument = (
 pub(crate) const NO_TIMES: Argument = (
     "no-times",
     Form::Flag,
-    "Leave the times of the archive out, so that programs of before read the tree file",
+    "Leave the times of the archive out, so that earlier versions read the tree file",
 );
 
 /// The options that the command line gives, if it names a file.
