@@ -7,7 +7,7 @@ use Rattle.sftp_packets.specs.declared.packets.Packet.TheVariants.{Version}
 use Rattle.sftp_packets.specs.declared.packets.Reply.{Reply}
 use Rattle.sftp_packets.specs.declared.replies.Answer.TheVariants.{Data, Attrs, Status, Extended}
 use Rattle.sftp_packets.specs.Requests.{known_extensions}
-use Rattle.sftp_wire.specs.Examples.{no_attributes}
+use Rattle.sftp_packets.specs.Spelling.{no_attributes}
 use Rattle.sftp_client.specs.Announced.{Announced}
 use Rattle.sftp_client.specs.Client.{Client, OpenRequests, session_with}
 

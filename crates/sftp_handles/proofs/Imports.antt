@@ -72,7 +72,7 @@ pub use Rattle.sftp_tree.specs.declared.file_contents.Content.{Content}
 pub use Rattle.sftp_tree.specs.declared.nodes.Node.{Node}
 pub use Rattle.sftp_treefile.specs.TreeFile.{are_bytes}
 pub use Rattle.sftp_treefile.specs.declared.limits.TreeLimits.{TreeLimits}
-pub use Rattle.sftp_wire.specs.Examples.{no_attributes}
+pub use Rattle.sftp_packets.specs.Spelling.{no_attributes}
 pub use Rattle.sftp_packets.specs.Spelling.{string, attributes, name_item, FitsString, FitsNameItem, AreBytes}
 pub use Rattle.sftp_packets.specs.Requests.{FitsAsk, asked_handle}
 pub use Rattle.sftp_packets.specs.Spelling.{handle_limit, uint32, uint64, packet_limit}

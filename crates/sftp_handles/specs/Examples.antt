@@ -6,7 +6,7 @@ use Rattle.sftp_packets.specs.declared.requests.Ask.{Ask}
 use Rattle.sftp_packets.specs.declared.requests.Ask.TheVariants.{Open, Opendir, Readdir}
 use Rattle.sftp_packets.specs.declared.replies.Answer.{Answer}
 use Rattle.sftp_packets.specs.declared.replies.Answer.TheVariants.{Status, Handle, Name}
-use Rattle.sftp_wire.specs.Examples.{no_attributes}
+use Rattle.sftp_packets.specs.Spelling.{no_attributes}
 use Rattle.sftp_tree.specs.declared.nodes.Node.TheVariants.{File}
 use Rattle.sftp_tree.specs.Tree.{Tree}
 use Rattle.sftp_tree.specs.Attributes.{said}

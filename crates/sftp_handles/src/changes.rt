@@ -8,8 +8,8 @@ use crate::answer::forms::has_code;
 use crate::sessions::Session;
 use crate::tables::HandleTable;
 use sftp_tree::{NoMemory, Refused};
-use sftp_wire::status::OK;
-use sftp_wire::{Answer, Ask};
+use sftp_packets::status::OK;
+use sftp_packets::{Answer, Ask};
 
 impl<T: HandleTable> Session<T> {
     /// Whether an answer to a change is allowed: it is done, and the answer says OK.

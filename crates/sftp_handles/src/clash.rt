@@ -18,7 +18,7 @@ use crate::sessions::Session;
 use crate::tables::HandleTable;
 use crate::touch::Touch;
 use sftp_tree::FileNo;
-use sftp_wire::{Ask, Request};
+use sftp_packets::{Ask, Request};
 
 impl Touch {
     /// Whether two requests, each with what it touches in the same state, share that: whether one of them touches

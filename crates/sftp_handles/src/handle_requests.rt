@@ -14,7 +14,7 @@ use crate::open_handles::{goes_to_end, may_read, may_write};
 use crate::sessions::Session;
 use crate::tables::HandleTable;
 use sftp_tree::{Cause, Causes, FileNo};
-use sftp_wire::{Attrs, OpenFlags};
+use sftp_packets::{Attrs, OpenFlags};
 
 impl<T: HandleTable> Session<T> {
     /// The causes of CLOSE.

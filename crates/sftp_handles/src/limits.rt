@@ -4,7 +4,7 @@ ghost use Rattle.sftp_packets.specs.Spelling.{uint64};
 ghost use Rattle.sftp_handles.specs.RequestRows as rows;
 
 use sftp_tree::TreeLimits;
-use sftp_wire::{ByteString, PACKET_LIMIT};
+use sftp_packets::{ByteString, PACKET_LIMIT};
 use std::alloc::{AllocError, Global};
 
 /// The data of the reply: the most bytes of a packet, of what a READ gives and, as told but not enforced, of what a

@@ -12,7 +12,7 @@ use crate::opens::Open;
 use crate::sessions::Session;
 use crate::tables::HandleTable;
 use sftp_tree::{Cause, Refused, Tree};
-use sftp_wire::Attrs;
+use sftp_packets::Attrs;
 
 impl<T: HandleTable> Session<T> {
     /// CLOSE: closes a handle. A file that has no name is removed with its last handle. Does not allocate.

@@ -16,7 +16,7 @@ use crate::tables::HandleTable;
 use bitflags::Flags;
 use sftp_listing::Listing;
 use sftp_tree::{Cause, FileNo};
-use sftp_wire::OpenFlags;
+use sftp_packets::OpenFlags;
 
 impl<T: HandleTable> Session<T> {
     /// The file that is open under a handle, and how it was opened.

@@ -19,7 +19,7 @@ use crate::tables::HandleTable;
 use sftp_listing::Listing;
 use sftp_path::Name;
 use sftp_tree::NoMemory;
-use sftp_wire::{ByteString, NameItem, Names};
+use sftp_packets::{ByteString, NameItem, Names};
 
 impl<T: HandleTable> Session<T> {
     /// READDIR: whether names are remaining entries of the listing, each once and with its attributes.

@@ -2,7 +2,7 @@
 
 use sftp_listing::Listing;
 use sftp_tree::FileNo;
-use sftp_wire::OpenFlags;
+use sftp_packets::OpenFlags;
 
 /// What is open under a handle.
 #[derive(Debug, Drop)]

@@ -6,8 +6,8 @@ ghost use Rattle.sftp_handles.specs.Payloads.{said_in, answer_of};
 use crate::answer::forms::{has_code, one_name, status};
 use sftp_listing::same_attributes;
 use sftp_tree::NoMemory;
-use sftp_wire::status::EOF;
-use sftp_wire::{Answer, Attrs, ByteString, Names};
+use sftp_packets::status::EOF;
+use sftp_packets::{Answer, Attrs, ByteString, Names};
 use std::alloc::Global;
 
 /// What the reply to a query carries.

@@ -14,7 +14,7 @@ use crate::requests::{Purpose, purpose_of};
 use crate::sessions::Session;
 use crate::tables::HandleTable;
 use sftp_tree::Refused;
-use sftp_wire::{Answer, Ask, ByteString};
+use sftp_packets::{Answer, Ask, ByteString};
 
 impl<T: HandleTable> Session<T> {
     /// The answer to a request that changes nothing: to STAT, LSTAT, FSTAT, READ, REALPATH, READLINK and that for the

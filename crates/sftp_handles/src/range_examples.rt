@@ -4,7 +4,7 @@
 
 ghost use Rattle.std.specs.Prelude.{◌≡◌, true, false, Some, None, codes};
 ghost use Rattle.sftp_packets.specs.declared.requests.Ask.TheVariants.{Close, Read, Write, Fstat, Fsetstat};
-ghost use Rattle.sftp_wire.specs.Examples.{no_attributes};
+ghost use Rattle.sftp_packets.specs.Spelling.{no_attributes};
 ghost use Rattle.sftp_handles.specs.Clash.{range_from};
 ghost use Rattle.sftp_handles.specs.RangeExamples.{with_short_reads, read, write, clash_in, clash_there, range_there};
 

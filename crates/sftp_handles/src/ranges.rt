@@ -11,7 +11,7 @@ use crate::opens::Open;
 use crate::sessions::Session;
 use crate::tables::HandleTable;
 use sftp_tree::FileNo;
-use sftp_wire::{Ask, Request, ends_within};
+use sftp_packets::{Ask, Request, ends_within};
 
 impl ByteRange {
     /// Whether both are ranges of one file and have no byte in common. An empty range has none in common with any. Does

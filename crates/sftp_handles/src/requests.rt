@@ -16,7 +16,7 @@ use crate::handle_requests::only;
 use crate::sessions::Session;
 use crate::tables::HandleTable;
 use sftp_tree::{Cause, Causes, NoMemory, Refused};
-use sftp_wire::Ask;
+use sftp_packets::Ask;
 
 /// What a request is for, by what its reply says where no cause refuses it.
 #[derive(Clone, Copy)]

@@ -2,7 +2,7 @@
 ghost use Rattle.std.specs.Prelude.{◌≡◌};
 ghost use Rattle.sftp_listing.specs.Left as spec;
 
-use sftp_wire::Attrs;
+use sftp_packets::Attrs;
 
 /// Whether the attributes have the size, the owner and the permissions of those shown. The rest is free.
 pub fn same_attributes(shown: &Attrs, attrs: &Attrs) -> bool

@@ -9,7 +9,7 @@ use crate::listing::Listing;
 use crate::marks::item_at;
 use sftp_path::NoMemory;
 use sftp_tree::Item;
-use sftp_wire::{ByteString, NameItem, Names};
+use sftp_packets::{ByteString, NameItem, Names};
 use std::alloc::Global;
 
 impl Listing {

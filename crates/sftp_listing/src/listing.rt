@@ -9,7 +9,7 @@ use crate::hints::{Hints, find_place};
 use crate::marks::{item_at, put_item, set_mark, take_unmarked};
 use sftp_path::{Name, NoMemory};
 use sftp_tree::Item;
-use sftp_wire::Attrs;
+use sftp_packets::Attrs;
 use std::alloc::Global;
 use std::collections::VecDeque;
 use std::marker::Model;

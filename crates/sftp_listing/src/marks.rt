@@ -11,7 +11,7 @@ ghost use Rattle.sftp_listing.specs.Marked.{IsNamed, IsGap};
 
 use sftp_path::{Name, NoMemory};
 use sftp_tree::Item;
-use sftp_wire::Attrs;
+use sftp_packets::Attrs;
 use std::collections::VecDeque;
 use std::mem::replace;
 

@@ -20,10 +20,6 @@ use Rattle.std.specs.Option.{IsSomeAnd}
 use Rattle.sftp_packets.specs.Packets.{handle_of, hides_extension, spelling}
 use Rattle.sftp_packets.specs.declared.attributes.Attrs.{Attrs}
 use Rattle.sftp_packets.specs.declared.requests.Ask.{Ask}
-use Rattle.sftp_packets.specs.declared.lent_fields.Field.{Field as Lent}
-use Rattle.sftp_packets.specs.declared.lent_fields.Field.TheVariants as lent
-use Rattle.sftp_packets.specs.declared.lent_fields.Fields.{Fields}
-use Rattle.sftp_packets.specs.declared.lent_fields.Fields.TheVariants.{One, Two, Three}
 
 -- A layout: the packet's type, whether an id comes after it, the type's name, the name of a known extension as a string
 -- (the mark, which is empty in every other layout), the kinds of the fields, and what comes after them.
@@ -148,23 +144,6 @@ IsTooLong packet =
 -- the packet is within its limits, but is an `Unknown` with the name of an extension that has a request of its own
 abbrev pub IsNotCanonical : Packet → Type 0
 IsNotCanonical packet = (IsTooLong packet → ⊥) × (hides_extension packet ≡ true)
-
--- ==== The fields of packets as the code lends them. Words of private contracts.
-
-abbrev pub seen : Lent → Field
-seen (lent.Number number) = Number number
-seen (lent.LongNumber number) = LongNumber number
-seen (lent.Text text) = Text text.now
-seen (lent.ExtensionName name) = ExtensionName name.now
-seen (lent.Rest bytes) = Rest bytes.now
-seen (lent.Attributes attrs) = Attributes attrs.now
-seen (lent.Items items) = Items items.now
-
--- the name of an extension is the first of them
-abbrev pub all_seen : Fields → List Field
-all_seen (One field) = seen field ∷ []
-all_seen (Two first second) = seen first ∷ seen second ∷ []
-all_seen (Three first second third) = seen first ∷ seen second ∷ seen third ∷ []
 
 -- ==== What holds of the values of requests: their bytes are bytes, and the numbers of an owner have 32 bits. Nothing
 -- is said of lengths, so it holds of more requests than can be encoded.

@@ -16,9 +16,9 @@ pub const PACKET_LIMIT: usize = 262_144;
 pub const HANDLE_LIMIT: usize = 256;
 
 // The types of the first packets (draft, section 4).
-pub(crate) const INIT: u8 = 1;
+pub const INIT: u8 = 1;
 
-pub(crate) const VERSION: u8 = 2;
+pub const VERSION: u8 = 2;
 
 /// Who sends a packet.
 #[derive(Clone, Copy, Debug, PartialEq, Eq)]
@@ -73,7 +73,7 @@ fn handle(packet: &Packet) -> Option<&[u8]>
 }
 
 /// Whether the handle of a packet has more bytes than a handle may have (draft, section 7).
-pub(crate) fn has_long_handle(packet: &Packet) -> bool
+pub fn has_long_handle(packet: &Packet) -> bool
     ensures { IsTrue result ↔ IsSomeAnd (handle_of packet.now) (λ handle. handle_limit < length handle) }
 {
     match handle(packet) {
@@ -83,7 +83,7 @@ pub(crate) fn has_long_handle(packet: &Packet) -> bool
 }
 
 /// Whether a packet is an `Unknown` with the name of an extension that has a request of its own.
-pub(crate) fn hides_extension(packet: &Packet) -> bool
+pub fn hides_extension(packet: &Packet) -> bool
     ensures { result ≡ hides_extension packet.now }
 {
     match packet {

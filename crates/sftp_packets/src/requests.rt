@@ -1,6 +1,6 @@
 //! The requests (draft, sections 6 and 8; OpenSSH's PROTOCOL, section 4): the type of each, its fields, its handle, the
-//! type of its reply, and its layout; and the names of extensions. `requests/reading.rt` reads them and
-//! `requests/copying.rt` copies them, both by the table here (`with_requests!`).
+//! type of its reply, and its layout; and the names of extensions. `sftp_codec` reads them and `requests/copying.rt` copies
+//! them, both by the table here (`with_requests!`).
 ghost use Rattle.std.specs.Prelude.{◌≡◌, bytes_eq, option_copied};
 ghost use Rattle.std.specs.List.{list_any};
 ghost use Rattle.sftp_packets.specs.Requests.{ask_row, ask_parts, asked_handle, is_known_extension, asks_known};
@@ -13,60 +13,59 @@ use crate::replies::{ATTRS, DATA, EXTENDED_REPLY, HANDLE, NAME, STATUS};
 use crate::strings::ByteString;
 
 mod copying;
-pub(crate) mod reading;
 
 // The types of requests (draft, section 3).
-pub(crate) const OPEN: u8 = 3;
+pub const OPEN: u8 = 3;
 
-pub(crate) const CLOSE: u8 = 4;
+pub const CLOSE: u8 = 4;
 
-pub(crate) const READ: u8 = 5;
+pub const READ: u8 = 5;
 
-pub(crate) const WRITE: u8 = 6;
+pub const WRITE: u8 = 6;
 
-pub(crate) const LSTAT: u8 = 7;
+pub const LSTAT: u8 = 7;
 
-pub(crate) const FSTAT: u8 = 8;
+pub const FSTAT: u8 = 8;
 
-pub(crate) const SETSTAT: u8 = 9;
+pub const SETSTAT: u8 = 9;
 
-pub(crate) const FSETSTAT: u8 = 10;
+pub const FSETSTAT: u8 = 10;
 
-pub(crate) const OPENDIR: u8 = 11;
+pub const OPENDIR: u8 = 11;
 
-pub(crate) const READDIR: u8 = 12;
+pub const READDIR: u8 = 12;
 
-pub(crate) const REMOVE: u8 = 13;
+pub const REMOVE: u8 = 13;
 
-pub(crate) const MKDIR: u8 = 14;
+pub const MKDIR: u8 = 14;
 
-pub(crate) const RMDIR: u8 = 15;
+pub const RMDIR: u8 = 15;
 
-pub(crate) const REALPATH: u8 = 16;
+pub const REALPATH: u8 = 16;
 
-pub(crate) const STAT: u8 = 17;
+pub const STAT: u8 = 17;
 
-pub(crate) const RENAME: u8 = 18;
+pub const RENAME: u8 = 18;
 
-pub(crate) const READLINK: u8 = 19;
+pub const READLINK: u8 = 19;
 
-pub(crate) const SYMLINK: u8 = 20;
+pub const SYMLINK: u8 = 20;
 
-pub(crate) const EXTENDED: u8 = 200;
+pub const EXTENDED: u8 = 200;
 
 // The names of the known extensions.
 
 /// Rename as POSIX does (OpenSSH's PROTOCOL, section 4.3).
-pub(crate) const POSIX_RENAME: &[u8] = b"posix-rename@openssh.com";
+pub const POSIX_RENAME: &[u8] = b"posix-rename@openssh.com";
 
 /// Make another name for a file (OpenSSH's PROTOCOL, section 4.5).
-pub(crate) const HARDLINK: &[u8] = b"hardlink@openssh.com";
+pub const HARDLINK: &[u8] = b"hardlink@openssh.com";
 
 /// Flush an open file to storage (OpenSSH's PROTOCOL, section 4.6).
-pub(crate) const FSYNC: &[u8] = b"fsync@openssh.com";
+pub const FSYNC: &[u8] = b"fsync@openssh.com";
 
 /// The limits of the tree. This profile's own.
-pub(crate) const LIMITS: &[u8] = b"limits@sftpv3.test";
+pub const LIMITS: &[u8] = b"limits@sftpv3.test";
 
 /// The names of the extensions that have requests of their own, in the order in which the server announces them.
 pub const KNOWN_EXTENSIONS: [&[u8]; 4] = [POSIX_RENAME, HARDLINK, FSYNC, LIMITS];
@@ -183,77 +182,11 @@ pub enum Ask {
     },
 }
 
-/// Evaluates an expression with the fields of a request.
-// A macro and not a function: wherever it is used, the compiler then knows the kinds of the fields.
-macro_rules! with_asked {
-    ($ask:expr, $fields:ident => $value:expr) => {
-        match $ask {
-            Ask::Lstat { path: text }
-            | Ask::Opendir { path: text }
-            | Ask::Remove { path: text }
-            | Ask::Rmdir { path: text }
-            | Ask::Realpath { path: text }
-            | Ask::Stat { path: text }
-            | Ask::Readlink { path: text }
-            | Ask::Close { handle: text }
-            | Ask::Fstat { handle: text }
-            | Ask::Readdir { handle: text } => {
-                let $fields = One(Text(text));
-                $value
-            }
-            Ask::Setstat { path: text, attrs }
-            | Ask::Mkdir { path: text, attrs }
-            | Ask::Fsetstat { handle: text, attrs } => {
-                let $fields = Two(Text(text), Attributes(attrs));
-                $value
-            }
-            Ask::Open { path, pflags, attrs } => {
-                let $fields = Three(Text(path), Number(*pflags), Attributes(attrs));
-                $value
-            }
-            Ask::Read { handle, offset, len } => {
-                let $fields = Three(Text(handle), LongNumber(*offset), Number(*len));
-                $value
-            }
-            Ask::Write { handle, offset, bytes } => {
-                let $fields = Three(Text(handle), LongNumber(*offset), Text(bytes));
-                $value
-            }
-            Ask::Rename { oldpath: one, newpath: other }
-            | Ask::Symlink { targetpath: one, linkpath: other } => {
-                let $fields = Two(Text(one), Text(other));
-                $value
-            }
-            Ask::PosixRename { oldpath, newpath } => {
-                let $fields = Three(ExtensionName(crate::requests::POSIX_RENAME), Text(oldpath), Text(newpath));
-                $value
-            }
-            Ask::Hardlink { oldpath, newpath } => {
-                let $fields = Three(ExtensionName(crate::requests::HARDLINK), Text(oldpath), Text(newpath));
-                $value
-            }
-            Ask::Fsync { handle } => {
-                let $fields = Two(ExtensionName(crate::requests::FSYNC), Text(handle));
-                $value
-            }
-            Ask::Limits => {
-                let $fields = One(ExtensionName(crate::requests::LIMITS));
-                $value
-            }
-            Ask::Unknown { name, rest } => {
-                let $fields = Two(ExtensionName(name.as_slice()), Rest(rest));
-                $value
-            }
-        }
-    };
-}
-
-pub(crate) use with_asked;
-
 /// Hands the requests to a macro, behind what it is given: of a request of the draft the type, the variant, and the
 /// fields in their order, each with its kind (`FieldKind`, or `Tail` of one that comes last); of a known extension its
 /// name in place of the type. `Unknown`, which is any other extension, is for the macro itself.
 // They are read and copied by this table, which the compiler holds against `Ask`, and the proof against `ask_row`.
+#[macro_export]
 macro_rules! with_requests {
     ($use:ident!($($given:tt)*)) => {
         $use! {
@@ -288,8 +221,6 @@ macro_rules! with_requests {
     };
 }
 
-pub(crate) use with_requests;
-
 /// The type of a request, by the table.
 macro_rules! type_in {
     (
@@ -306,7 +237,7 @@ macro_rules! type_in {
 }
 
 /// The type of a request's packet.
-pub(crate) fn asked_type(ask: &Ask) -> u8
+pub fn asked_type(ask: &Ask) -> u8
     ensures { result ≡ (ask_parts ask.now).0 }
 {
     with_requests!(type_in!(ask))
@@ -353,7 +284,7 @@ pub fn extension_name(ask: &Ask) -> Option<&'static [u8]>
 
 /// The type of the reply that a request may get; each may get a status beside it, and most get nothing else (draft,
 /// sections 6 and 7).
-pub(crate) fn reply_type(ask: &Ask) -> u8
+pub fn reply_type(ask: &Ask) -> u8
     ensures { result ≡ reply_type ask.now }
 {
     match ask {
@@ -382,7 +313,7 @@ fn is_known(name: &[u8]) -> bool
 }
 
 /// Whether it is an `Unknown` with the name of an extension that has a request of its own.
-pub(crate) fn asks_known(ask: &Ask) -> bool
+pub fn asks_known(ask: &Ask) -> bool
     ensures { result ≡ asks_known ask.now }
 {
     match ask {
@@ -392,7 +323,7 @@ pub(crate) fn asks_known(ask: &Ask) -> bool
 }
 
 /// The layouts of what a client sends. Those of the known extensions come before that of any other.
-pub(crate) const CLIENT_LAYOUTS: &[Layout] = &[
+pub const CLIENT_LAYOUTS: &[Layout] = &[
     first_packet!(INIT, "INIT"),
     plain!(OPEN, "OPEN", ["path": Text, "pflags": Flags], Attributes),
     plain!(CLOSE, "CLOSE", ["handle": Handle], Nothing),

@@ -6,7 +6,7 @@ use Rattle.sftp_packets.specs.declared.requests.Ask.TheVariants.{Unknown}
 use Rattle.sftp_packets.specs.Spelling.{uint64, string, attributes}
 use Rattle.sftp_packets.specs.declared.replies.Answer.{Answer}
 use Rattle.sftp_packets.specs.declared.replies.Answer.TheVariants.{Name}
-use Rattle.sftp_wire.specs.Examples.{no_attributes}
+use Rattle.sftp_packets.specs.Spelling.{no_attributes}
 use Rattle.sftp_treefile.specs.TreeFile.{usual_limits}
 use Rattle.sftp_tree.specs.declared.nodes.Node.TheVariants.{Dir, Link, File as a_file}
 use Rattle.sftp_tree.specs.Attributes.{said}

@@ -1,7 +1,7 @@
 //! Directories that are open, and what becomes of them when names change (POSIX, open, readdir and rename).
 ghost use Rattle.std.specs.Prelude.{◌≡◌, ◌==◌, ◌+◌, ◌++◌, [], ◌∷◌, Some, map, drop, OnOk, IfOk, option_copied};
 ghost use Rattle.sftp_handles.specs.Replies.{names_in};
-ghost use Rattle.sftp_wire.specs.Examples.{no_attributes};
+ghost use Rattle.sftp_packets.specs.Spelling.{no_attributes};
 ghost use Rattle.sftp_profile.specs.Profiles as spec;
 
 use sftp_handles::Listing;

@@ -7,7 +7,7 @@ ghost use Rattle.sftp_packets.specs.declared.requests.Ask.TheVariants.{Readdir, 
 ghost use Rattle.sftp_packets.specs.declared.requests.Ask.TheVariants.{Open, Mkdir, Symlink, Unknown};
 ghost use Rattle.sftp_packets.specs.declared.requests.Ask.TheVariants.{Hardlink, Read, Realpath, Write, Fsetstat};
 ghost use Rattle.sftp_packets.specs.declared.replies.Answer.TheVariants.{Attrs, Data, Handle, Name};
-ghost use Rattle.sftp_wire.specs.Examples.{no_attributes};
+ghost use Rattle.sftp_packets.specs.Spelling.{no_attributes};
 ghost use Rattle.sftp_tree.specs.Picture.{blank};
 ghost use Rattle.sftp_tree.specs.WalkExamples.{with_link, letters};
 ghost use Rattle.sftp_handles.specs.Examples.{closed, with_text, with_none, code, item, sized, of_directory};

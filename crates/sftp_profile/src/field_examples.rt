@@ -5,7 +5,7 @@
 ghost use Rattle.std.specs.Prelude.{◌≡◌, ◌∷◌, ◌++◌, [], Some, None, true, false, codes};
 ghost use Rattle.sftp_packets.specs.declared.requests.Ask.TheVariants.{Unknown};
 ghost use Rattle.sftp_packets.specs.Spelling.{string, attributes};
-ghost use Rattle.sftp_wire.specs.Examples.{no_attributes};
+ghost use Rattle.sftp_packets.specs.Spelling.{no_attributes};
 ghost use Rattle.sftp_tree.specs.WalkExamples.{with_link};
 ghost use Rattle.sftp_handles.specs.Examples.{closed, with_text, with_owned, code, sized, owned};
 ghost use Rattle.sftp_profile.specs.Profiles.{strict};

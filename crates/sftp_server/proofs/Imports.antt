@@ -71,8 +71,9 @@ pub use Rattle.sftp_tree.proofs.Requests.Rows.{PathsLeadWell}
 pub use Rattle.sftp_tree.proofs.Requests.Rows.{path-bytes}
 pub use Rattle.sftp_tree.specs.Tree.{Tree}
 pub use Rattle.sftp_wire.proofs.StreamLaws.{length-spelling, none-leaves_room, front_again, spellings-apart}
-pub use Rattle.sftp_wire.specs.Examples.{version_bytes, no_attributes}
-unfoldable pub use Rattle.sftp_wire.specs.Examples.{hex}
+pub use Rattle.sftp_wire.specs.Examples.{version_bytes}
+pub use Rattle.sftp_packets.specs.Spelling.{no_attributes}
+unfoldable pub use Rattle.sftp_packets.specs.Hexadecimal.{hex}
 pub use Rattle.sftp_wire.specs.Fronts.{place_after}
 pub use Rattle.sftp_wire.specs.Fronts.{StandsInFront}
 unfoldable pub use Rattle.sftp_wire.specs.Fronts.{front_of}

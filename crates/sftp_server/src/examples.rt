@@ -1,7 +1,8 @@
 //! Worked examples: what a core does and how sessions end, as theorems on the definitions that the contracts of
 //! `run_script` and `serve` name. The functions do nothing; each promise is in the contract.
 ghost use Rattle.std.specs.Prelude.{◌≡◌, ℕ, ◌∷◌, ◌++◌, [], codes, length};
-ghost use Rattle.sftp_wire.specs.Examples.{hex, version_bytes};
+ghost use Rattle.sftp_wire.specs.Examples.{version_bytes};
+ghost use Rattle.sftp_packets.specs.Hexadecimal.{hex};
 ghost use Rattle.sftp_handles.specs.State.{started};
 ghost use Rattle.sftp_transcript.specs.Examples.{handshake_bytes};
 ghost use Rattle.sftp_transcript.specs.Explained.{window};

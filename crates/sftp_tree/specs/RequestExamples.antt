@@ -2,7 +2,7 @@
 -- entries.
 use Rattle.std.specs.Prelude.{ℕ, List, [], ◌∷◌, Some, codes}
 use Rattle.sftp_packets.specs.declared.attributes.Attrs.{Attrs}
-use Rattle.sftp_wire.specs.Examples.{no_attributes}
+use Rattle.sftp_packets.specs.Spelling.{no_attributes}
 use Rattle.sftp_path.specs.Place.{Name, Place}
 use Rattle.sftp_path.specs.Table.{Table}
 use Rattle.sftp_tree.specs.declared.file_contents.Content.{Content}

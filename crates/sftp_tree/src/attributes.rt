@@ -14,7 +14,7 @@ use crate::file_numbers::FileNo;
 use crate::owners::changed_owner;
 use crate::trees::Tree;
 use sftp_treefile::Owner;
-use sftp_wire::Attrs;
+use sftp_packets::Attrs;
 
 /// The permissions of a new directory if none are given. This profile's own.
 const DIRECTORY_PERMISSIONS: u32 = 0o755;

@@ -5,7 +5,7 @@ ghost use Rattle.sftp_tree.specs.PlaceCauses as sets;
 ghost use Rattle.sftp_tree.specs.Told.{in_set};
 
 use sftp_path::NoMemory;
-use sftp_wire::status::{BAD_MESSAGE, FAILURE, NO_SUCH_FILE, OP_UNSUPPORTED, PERMISSION_DENIED};
+use sftp_packets::status::{BAD_MESSAGE, FAILURE, NO_SUCH_FILE, OP_UNSUPPORTED, PERMISSION_DENIED};
 use std::alloc::{AllocError, AllocFailed};
 use std::fmt;
 use thiserror::Error;

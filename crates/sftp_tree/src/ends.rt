@@ -14,7 +14,7 @@ use crate::causes::{Cause, Causes, Refused};
 use crate::found::Found;
 use crate::trees::Tree;
 use sftp_path::{NoMemory, Place};
-use sftp_wire::Ask;
+use sftp_packets::Ask;
 
 /// Where the paths of a request lead, or why they lead nowhere. `new` is of the second path, if there is one.
 #[derive(Drop)]

@@ -8,7 +8,7 @@ ghost use Rattle.sftp_tree.specs.StoredFiles.{is_held_still, IsWritable};
 use crate::owners::changed_owner;
 use sftp_path::NoMemory;
 use sftp_treefile::Owner;
-use sftp_wire::Attrs;
+use sftp_packets::Attrs;
 use std::marker::Model;
 
 /// The bytes of a file.

@@ -4,7 +4,7 @@ ghost use Rattle.sftp_packets.specs.Reading.{has_flag};
 ghost use Rattle.sftp_tree.specs.Attributes as spec;
 
 use bitflags::Flags;
-use sftp_wire::OpenFlags;
+use sftp_packets::OpenFlags;
 
 /// Whether a file that does not exist is made.
 pub(crate) fn creates(flags: u32) -> bool

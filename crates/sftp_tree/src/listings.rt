@@ -18,7 +18,7 @@ use crate::entries::seen::Seen;
 use crate::found::Found;
 use crate::trees::Tree;
 use sftp_path::{Name, NoMemory};
-use sftp_wire::Attrs;
+use sftp_packets::Attrs;
 use std::alloc::Global;
 
 /// A name in a directory, with the attributes that LSTAT shows of its node.

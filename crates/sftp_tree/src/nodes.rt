@@ -4,7 +4,7 @@ ghost use Rattle.sftp_tree.specs.StoredFiles.{file_named};
 
 use crate::file_numbers::FileNo;
 use sftp_treefile::Owner;
-use sftp_wire::ByteString;
+use sftp_packets::ByteString;
 
 /// The node at a place.
 #[derive(Drop)]

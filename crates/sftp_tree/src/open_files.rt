@@ -10,7 +10,7 @@ ghost use Rattle.sftp_tree.specs.Room as room;
 use crate::causes::{Cause, Refused};
 use crate::file_numbers::FileNo;
 use crate::trees::Tree;
-use sftp_wire::{Attrs, ends_within};
+use sftp_packets::{Attrs, ends_within};
 
 impl Tree {
     /// Whether there is a file of this number.

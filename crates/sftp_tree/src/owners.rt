@@ -4,7 +4,7 @@ ghost use Rattle.sftp_treefile.specs.TreeFile.{IsOwner};
 ghost use Rattle.sftp_tree.specs.Attributes as spec;
 
 use sftp_treefile::Owner;
-use sftp_wire::Attrs;
+use sftp_packets::Attrs;
 
 /// Permissions have twelve bits.
 const PERMISSION_BITS: u32 = 0o7777;

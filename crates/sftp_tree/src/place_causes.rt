@@ -12,7 +12,7 @@ use crate::flags::{creates, excludes};
 use crate::found::{Found, is_root};
 use crate::trees::Tree;
 use sftp_path::Place;
-use sftp_wire::Attrs;
+use sftp_packets::Attrs;
 
 impl Tree {
     /// The causes of a directory that is to be removed.

@@ -27,7 +27,7 @@ use crate::owners::changed_owner;
 use crate::trees::Tree;
 use sftp_path::{NoMemory, Place};
 use sftp_treefile::Owner;
-use sftp_wire::{Attrs, ByteString};
+use sftp_packets::{Attrs, ByteString};
 
 /// What is to be done for a request that no cause refuses.
 #[derive(Drop)]

@@ -6,7 +6,7 @@ ghost use Rattle.std.specs.Prelude.{◌≡◌, true, false, [], ◌∷◌, ◌++
 ghost use Rattle.sftp_packets.specs.declared.requests.Ask.TheVariants.{Lstat, Setstat, Remove, Mkdir, Rmdir};
 ghost use Rattle.sftp_packets.specs.declared.requests.Ask.TheVariants.{Realpath, Stat, Rename, Readlink};
 ghost use Rattle.sftp_packets.specs.declared.requests.Ask.TheVariants.{Symlink, PosixRename, Hardlink, Open, Opendir};
-ghost use Rattle.sftp_wire.specs.Examples.{no_attributes};
+ghost use Rattle.sftp_packets.specs.Spelling.{no_attributes};
 ghost use Rattle.sftp_tree.specs.declared.causes.Cause.TheVariants.{BadPath, NoEntry, NotDir, Exists, IsDir};
 ghost use Rattle.sftp_tree.specs.declared.causes.Cause.TheVariants.{NotLink, NotFile, NotEmpty, Root, Inside};
 ghost use Rattle.sftp_tree.specs.declared.causes.Cause.TheVariants.{BadFlags, NoRoom};

@@ -10,7 +10,7 @@ use crate::files::Files;
 use crate::nodes::{Node, file_named};
 use sftp_path::{NoMemory, Place};
 use sftp_treefile::{Owner, TreeLimits};
-use sftp_wire::Attrs;
+use sftp_packets::Attrs;
 use std::alloc::Global;
 use std::fmt;
 use std::marker::Model;

@@ -11,7 +11,7 @@ pub use Rattle.std.specs.List.{flat_map}
 pub use Rattle.std.specs.Prelude.{◌↔◌, IsTrue, nat_eq, nat_lt, nat_le, map, max, not, ◌==◌}
 pub use Rattle.sftp_packets.specs.Spelling.{string, uint32, uint64}
 unfoldable pub use Rattle.sftp_path.specs.Place.{components, is_good_path, parts}
-unfoldable pub use Rattle.sftp_wire.specs.Examples.{hex}
+unfoldable pub use Rattle.sftp_packets.specs.Hexadecimal.{hex}
 pub use Rattle.sftp_treefile.specs.TreeFile.{usual_limits, highest_limits, least_limits, most_limits, AreLimits}
 pub use Rattle.sftp_treefile.specs.TreeFile.{AreBetween, all_bytes}
 unfoldable pub use Rattle.sftp_treefile.specs.TreeFile.{are_own, are_far}

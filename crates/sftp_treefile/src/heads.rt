@@ -17,7 +17,7 @@ use crate::limits::{
     most_limits, usual_limits,
 };
 use crate::times::{NO_TIMES, Times};
-use sftp_wire::ByteString;
+use sftp_packets::ByteString;
 use std::alloc::Global;
 
 /// The head of a tree file: what it says before its entries.

@@ -1,30 +1,14 @@
--- Words of the worked examples: bytes in hexadecimal, packets with their bytes, attributes without a field, and the
--- server's VERSION.
-use Rattle.std.specs.Prelude.{◌≡◌, ◌==◌, nat_lt, not, ℕ, ◌+◌, ◌-◌, ◌*◌, if◌then◌else◌}
-use Rattle.std.specs.Prelude.{List, [], ◌∷◌, length, filter, codes, Some, Ok}
+-- Words of the worked examples: packets with their bytes, and the server's VERSION.
+use Rattle.std.specs.Prelude.{◌≡◌, ℕ, List, length, codes, Some, Ok}
 use Rattle.sftp_packets.specs.declared.replies.Answer.{Answer}
 use Rattle.sftp_packets.specs.declared.requests.Ask.{Ask}
 use Rattle.sftp_packets.specs.declared.packets.Packet.{Packet}
 use Rattle.sftp_packets.specs.declared.packets.Packet.TheVariants.{Request, Reply}
 use Rattle.sftp_packets.specs.declared.packets.Side.{Side}
 use Rattle.sftp_packets.specs.declared.packets.Side.TheVariants.{Client, Server}
-pub use Rattle.sftp_packets.specs.Spelling.{no_attributes}
 use Rattle.sftp_packets.specs.Packets.{spelling}
+use Rattle.sftp_packets.specs.Hexadecimal.{hex}
 use Rattle.sftp_wire.specs.Fronts.{front_of}
-
--- the value of a hexadecimal digit, `0` to `9` or `a` to `f`
-abbrev pub digit_worth : ℕ → ℕ
-digit_worth code = if nat_lt code 58 then code - 48 else code - 87
-
--- two digits a byte
-abbrev pub bytes_of_digits : List ℕ → List ℕ
-bytes_of_digits [] = []
-bytes_of_digits (high ∷ []) = []
-bytes_of_digits (high ∷ low ∷ others) = (digit_worth high * 16 + digit_worth low) ∷ bytes_of_digits others
-
--- the bytes of a text in hexadecimal digits; spaces only group them
-unfoldable pub hex : List ℕ → List ℕ
-hex text = bytes_of_digits (filter (λ code. not (code == 32)) text)
 
 -- all of the bytes are read as the packet, and the packet is spelled as the bytes
 pub record IsRow (side : Side) (bytes : List ℕ) (packet : Packet) : Type 0 where

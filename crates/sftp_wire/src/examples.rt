@@ -1,12 +1,14 @@
 //! Worked examples: some bytes with the packets that they are read as, and some packets with their encodings, as
 //! theorems about the definitions that the contracts of `encode` and `front` name.
-#![tactic(auto, unfolding(sftp_packets::specs::Packets::spelling, crate::specs::Examples::hex, crate::specs::Fronts::front_of, sftp_packets::specs::Packets::packet_of, sftp_packets::specs::Packets::client_packet_at, sftp_packets::specs::Packets::server_packet_at, sftp_packets::specs::Requests::extension_at, sftp_packets::specs::Requests::extension_data_at, sftp_packets::specs::Reading::names_at, sftp_packets::specs::Reading::name_item_at, sftp_packets::specs::Reading::attributes_at, sftp_packets::specs::Reading::attribute_fields_at, sftp_packets::specs::Reading::counted_pairs_at, sftp_packets::specs::Reading::pairs_at, sftp_packets::specs::Reading::pair_at, sftp_packets::specs::Reading::handle_at, sftp_packets::specs::Reading::string_at, sftp_packets::specs::Reading::two_uint32_at, sftp_packets::specs::Reading::uint64_at, sftp_packets::specs::Reading::uint32_at))]
+#![tactic(auto, unfolding(sftp_packets::specs::Packets::spelling, sftp_packets::specs::Hexadecimal::hex, crate::specs::Fronts::front_of, sftp_packets::specs::Packets::packet_of, sftp_packets::specs::Packets::client_packet_at, sftp_packets::specs::Packets::server_packet_at, sftp_packets::specs::Requests::extension_at, sftp_packets::specs::Requests::extension_data_at, sftp_packets::specs::Reading::names_at, sftp_packets::specs::Reading::name_item_at, sftp_packets::specs::Reading::attributes_at, sftp_packets::specs::Reading::attribute_fields_at, sftp_packets::specs::Reading::counted_pairs_at, sftp_packets::specs::Reading::pairs_at, sftp_packets::specs::Reading::pair_at, sftp_packets::specs::Reading::handle_at, sftp_packets::specs::Reading::string_at, sftp_packets::specs::Reading::two_uint32_at, sftp_packets::specs::Reading::uint64_at, sftp_packets::specs::Reading::uint32_at))]
 
 ghost use Rattle.std.specs.Prelude.{◌≡◌, true, [], ◌∷◌, codes};
 ghost use Rattle.sftp_packets.specs.Requests.{server_extensions};
 ghost use Rattle.sftp_packets.specs.Packets.{hides_extension};
+ghost use Rattle.sftp_packets.specs.Spelling.{no_attributes};
+ghost use Rattle.sftp_packets.specs.Hexadecimal.{hex};
 ghost use Rattle.sftp_wire.specs.Fronts.{front_of};
-ghost use Rattle.sftp_wire.specs.Examples.{hex, IsRow, IsAsked, IsAnswered, no_attributes, version_bytes};
+ghost use Rattle.sftp_wire.specs.Examples.{IsRow, IsAsked, IsAnswered, version_bytes};
 
 use sftp_packets::{Answer, Ask, Fault, Packet, Side};
 

@@ -5,9 +5,8 @@ ghost use Rattle.sftp_packets.specs.Packets.{HasSpelling, side_of, spelling, pac
 ghost use Rattle.sftp_packets.specs.Reading.{Gives};
 ghost use Rattle.sftp_wire.specs.Fronts.{IsReading, StandsInFront, front_of};
 
-use sftp_packets::{
-    Fault, PACKET_LIMIT, Packet, ReadError, Side, WireError, read_fields, take_number,
-};
+use sftp_codec::read_fields;
+use sftp_packets::{Fault, PACKET_LIMIT, Packet, ReadError, Side, WireError, take_number};
 use std::alloc::Global;
 
 /// The packet after a length.

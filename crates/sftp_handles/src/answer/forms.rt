@@ -6,7 +6,7 @@ ghost use Rattle.sftp_handles.specs.Replies as spec;
 ghost use Rattle.sftp_handles.specs.Payloads.{status_of, only_name};
 
 use sftp_tree::NoMemory;
-use sftp_wire::{Answer, Attrs, ByteString, NameItem, Names};
+use sftp_packets::{Answer, Attrs, ByteString, NameItem, Names};
 use std::alloc::Global;
 
 /// A status with this code, whose texts are empty. Does not allocate.

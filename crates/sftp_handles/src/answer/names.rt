@@ -16,8 +16,8 @@ use crate::open_listings::give_first;
 use crate::sessions::Session;
 use crate::tables::HandleTable;
 use sftp_tree::{Cause, NoMemory, Refused};
-use sftp_wire::status::EOF;
-use sftp_wire::{Answer, Ask, ByteString};
+use sftp_packets::status::EOF;
+use sftp_packets::{Answer, Ask, ByteString};
 
 /// How many names a reply to READDIR gives at most.
 const NAMES_IN_REPLY: usize = 32;

@@ -8,8 +8,9 @@ ghost use Rattle.sftp_packets.specs.Layouts.{IsAsk, IsAttrs};
 ghost use Rattle.sftp_packets.specs.Spelling.{AreBytes, FitsTwo};
 
 use crate::attributes::Attrs;
-use crate::requests::{Ask, with_requests};
+use crate::requests::Ask;
 use crate::strings::ByteString;
+use crate::with_requests;
 use std::alloc::AllocError;
 
 impl Clone for Attrs {

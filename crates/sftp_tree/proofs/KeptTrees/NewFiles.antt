@@ -13,7 +13,7 @@ use Rattle.sftp_tree.proofs.Imports.{contents, pins_of, pin_count_at, seen, AreC
 use Rattle.sftp_tree.proofs.Imports.{resized, changed_content, with_changed_file, with_new_file, with_emptied_file}
 use Rattle.sftp_tree.proofs.Imports.{CanMake, has_room_for_file}
 use Rattle.std.proofs.lemmas.Cmp.{nat_cmp_total}
-use Rattle.sftp_wire.specs.Examples.{no_attributes}
+use Rattle.sftp_packets.specs.Spelling.{no_attributes}
 use Rattle.sftp_tree.proofs.PlaceTables.{each-weaker, each-put}
 use Rattle.sftp_tree.proofs.WellFormedTrees.{names-of, names-put, well-formed-names}
 use Rattle.sftp_tree.proofs.Limits.{fits-parts}

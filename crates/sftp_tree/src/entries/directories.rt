@@ -14,7 +14,7 @@ mod appending;
 use crate::file_numbers::FileNo;
 use sftp_path::Name;
 use sftp_treefile::Owner;
-use sftp_wire::ByteString;
+use sftp_packets::ByteString;
 use std::alloc::Global;
 use std::collections::{BTreeMap, btree_map};
 use std::marker::Model;

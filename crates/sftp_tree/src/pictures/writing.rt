@@ -23,7 +23,7 @@ use sftp_streams::{Sink, Tally};
 use sftp_treefile::{
     EntryTimes, Head, Owner, Times, WriteError, send_further_name, send_head, send_timed_file,
 };
-use sftp_wire::ByteString;
+use sftp_packets::ByteString;
 use std::collections::BTreeMap;
 
 /// The owner of what has none.
