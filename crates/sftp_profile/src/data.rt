@@ -5,7 +5,8 @@ ghost use Rattle.sftp_profile.specs.Replaced.{ask_in};
 ghost use Rattle.sftp_profile.specs.Replaced.{setstat_in};
 
 use bytes::Buf;
-use sftp_packets::{Fault, ReadError, read_fields};
+use sftp_codec::read_fields;
+use sftp_packets::{Fault, ReadError};
 use sftp_tree::NoMemory;
 use sftp_wire::{Ask, ByteString, Packet, Request, Side};
 use std::alloc::Global;
