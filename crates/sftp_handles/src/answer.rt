@@ -15,9 +15,9 @@ use crate::answer::forms::status;
 use crate::requests::{Purpose, purpose_of};
 use crate::sessions::Session;
 use crate::tables::HandleTable;
-use sftp_tree::{Cause, NoMemory, Refused};
 use sftp_packets::status::OK;
 use sftp_packets::{Answer, Ask, Reply, Request};
+use sftp_tree::{Cause, NoMemory, Refused};
 
 impl<T: HandleTable> Session<T> {
     /// Answers a request: does it, or refuses it, and returns its reply. A refusal is a status with the `Cause::code`

@@ -7,9 +7,9 @@ ghost use Rattle.sftp_handles.specs.Slots.{IsJudged, IsDone, IsRefusal, changes_
 use crate::answer::forms::has_code;
 use crate::sessions::Session;
 use crate::tables::HandleTable;
-use sftp_tree::{NoMemory, Refused};
 use sftp_packets::status::OK;
 use sftp_packets::{Answer, Ask};
+use sftp_tree::{NoMemory, Refused};
 
 impl<T: HandleTable> Session<T> {
     /// Whether an answer to a change is allowed: it is done, and the answer says OK.

@@ -17,8 +17,8 @@ use crate::requests::{Use, through};
 use crate::sessions::Session;
 use crate::tables::HandleTable;
 use crate::touch::Touch;
-use sftp_tree::FileNo;
 use sftp_packets::{Ask, Request};
+use sftp_tree::FileNo;
 
 impl Touch {
     /// Whether two requests, each with what it touches in the same state, share that: whether one of them touches

@@ -13,8 +13,8 @@ ghost use Rattle.sftp_handles.specs.State.{Good};
 use crate::open_handles::{goes_to_end, may_read, may_write};
 use crate::sessions::Session;
 use crate::tables::HandleTable;
-use sftp_tree::{Cause, Causes, FileNo};
 use sftp_packets::{Attrs, OpenFlags};
+use sftp_tree::{Cause, Causes, FileNo};
 
 impl<T: HandleTable> Session<T> {
     /// The causes of CLOSE.

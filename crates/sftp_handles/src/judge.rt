@@ -12,9 +12,9 @@ use crate::given_table::GivenTable;
 use crate::requests::{Purpose, purpose_of};
 use crate::sessions::Session;
 use crate::tables::HandleTable;
-use sftp_tree::{NoMemory, Refused};
 use sftp_packets::status::EOF;
 use sftp_packets::{Answer, Ask, Reply, Request};
+use sftp_tree::{NoMemory, Refused};
 
 impl Session<GivenTable> {
     /// Whether the reply to a request is allowed. If so, the session takes the step; if not, it is unchanged.

@@ -3,8 +3,8 @@ ghost use Rattle.std.specs.Prelude.{◌≡◌, ◌++◌, IfOk, OnOk};
 ghost use Rattle.sftp_packets.specs.Spelling.{uint64};
 ghost use Rattle.sftp_handles.specs.RequestRows as rows;
 
-use sftp_tree::TreeLimits;
 use sftp_packets::{ByteString, PACKET_LIMIT};
+use sftp_tree::TreeLimits;
 use std::alloc::{AllocError, Global};
 
 /// The data of the reply: the most bytes of a packet, of what a READ gives and, as told but not enforced, of what a

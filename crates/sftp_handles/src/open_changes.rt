@@ -11,8 +11,8 @@ ghost use Rattle.sftp_handles.specs.Slots.{IsDone, IsRefusal};
 use crate::opens::Open;
 use crate::sessions::Session;
 use crate::tables::HandleTable;
-use sftp_tree::{Cause, Refused, Tree};
 use sftp_packets::Attrs;
+use sftp_tree::{Cause, Refused, Tree};
 
 impl<T: HandleTable> Session<T> {
     /// CLOSE: closes a handle. A file that has no name is removed with its last handle. Does not allocate.

@@ -11,8 +11,8 @@ ghost use Rattle.sftp_tree.specs.Tree.{HasFile, content_at, limits};
 
 use crate::sessions::Session;
 use crate::tables::HandleTable;
-use sftp_tree::{Cause, FileNo};
 use sftp_packets::Attrs;
+use sftp_tree::{Cause, FileNo};
 
 impl<T: HandleTable> Session<T> {
     /// FSTAT: the size, the owner and the permissions of an open file. Does not allocate.

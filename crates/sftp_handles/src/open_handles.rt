@@ -15,8 +15,8 @@ use crate::sessions::Session;
 use crate::tables::HandleTable;
 use bitflags::Flags;
 use sftp_listing::Listing;
-use sftp_tree::{Cause, FileNo};
 use sftp_packets::OpenFlags;
+use sftp_tree::{Cause, FileNo};
 
 impl<T: HandleTable> Session<T> {
     /// The file that is open under a handle, and how it was opened.

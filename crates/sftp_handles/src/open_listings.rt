@@ -17,9 +17,9 @@ use crate::opens::Open;
 use crate::sessions::Session;
 use crate::tables::HandleTable;
 use sftp_listing::Listing;
+use sftp_packets::{ByteString, NameItem, Names};
 use sftp_path::Name;
 use sftp_tree::NoMemory;
-use sftp_packets::{ByteString, NameItem, Names};
 
 impl<T: HandleTable> Session<T> {
     /// READDIR: whether names are remaining entries of the listing, each once and with its attributes.

@@ -7,8 +7,8 @@ ghost use Rattle.sftp_handles.specs.RequestRows.{with_handle_room};
 
 use crate::sessions::Session;
 use crate::tables::HandleTable;
-use sftp_tree::{Cause, Causes, NoMemory};
 use sftp_packets::Ask;
+use sftp_tree::{Cause, Causes, NoMemory};
 
 impl<T: HandleTable> Session<T> {
     /// The causes of a request that opens something: those of its path, and `NoRoom` if there is none and no more

@@ -21,8 +21,8 @@ use crate::sessions::Session;
 use crate::tables::{HandleTable, PutError};
 use bitflags::Flags;
 use sftp_listing::Listing;
-use sftp_tree::{NoMemory, Refused, Tree};
 use sftp_packets::{Ask, Attrs, HANDLE_LIMIT, OpenFlags};
+use sftp_tree::{NoMemory, Refused, Tree};
 
 impl<T: HandleTable> Session<T> {
     /// OPEN and OPENDIR: opens a file, or a listing of a directory, under a new handle, and returns the handle's name.

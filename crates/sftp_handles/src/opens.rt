@@ -1,8 +1,8 @@
 //! What a handle opens: a file, or a listing of a directory.
 
 use sftp_listing::Listing;
-use sftp_tree::FileNo;
 use sftp_packets::OpenFlags;
+use sftp_tree::FileNo;
 
 /// What is open under a handle.
 #[derive(Debug, Drop)]

@@ -5,9 +5,9 @@ ghost use Rattle.sftp_handles.specs.Payloads.{said_in, answer_of};
 
 use crate::answer::forms::{has_code, one_name, status};
 use sftp_listing::same_attributes;
-use sftp_tree::NoMemory;
 use sftp_packets::status::EOF;
 use sftp_packets::{Answer, Attrs, ByteString, Names};
+use sftp_tree::NoMemory;
 use std::alloc::Global;
 
 /// What the reply to a query carries.

@@ -8,9 +8,9 @@ ghost use Rattle.sftp_handles.specs.Opening as spec;
 
 use crate::given_table::GivenTable;
 use crate::sessions::Session;
-use sftp_tree::NoMemory;
 use sftp_codec::encode;
 use sftp_packets::{Packet, Reply, Request, WireError};
+use sftp_tree::NoMemory;
 use std::alloc::Global;
 
 impl Session<GivenTable> {

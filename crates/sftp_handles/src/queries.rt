@@ -13,8 +13,8 @@ use crate::payloads::Payload;
 use crate::requests::{Purpose, purpose_of};
 use crate::sessions::Session;
 use crate::tables::HandleTable;
-use sftp_tree::Refused;
 use sftp_packets::{Answer, Ask, ByteString};
+use sftp_tree::Refused;
 
 impl<T: HandleTable> Session<T> {
     /// The answer to a request that changes nothing: to STAT, LSTAT, FSTAT, READ, REALPATH, READLINK and that for the

@@ -10,8 +10,8 @@ use crate::open_handles::goes_to_end;
 use crate::opens::Open;
 use crate::sessions::Session;
 use crate::tables::HandleTable;
-use sftp_tree::FileNo;
 use sftp_packets::{Ask, Request, ends_within};
+use sftp_tree::FileNo;
 
 impl ByteRange {
     /// Whether both are ranges of one file and have no byte in common. An empty range has none in common with any. Does

@@ -15,8 +15,8 @@ ghost use Rattle.sftp_handles.specs.Slots as uses;
 use crate::handle_requests::only;
 use crate::sessions::Session;
 use crate::tables::HandleTable;
-use sftp_tree::{Cause, Causes, NoMemory, Refused};
 use sftp_packets::Ask;
+use sftp_tree::{Cause, Causes, NoMemory, Refused};
 
 /// What a request is for, by what its reply says where no cause refuses it.
 #[derive(Clone, Copy)]

@@ -8,8 +8,8 @@ ghost use Rattle.sftp_handles.specs.Allowed.{Allowed};
 ghost use Rattle.sftp_handles.proofs.Judged.{allowed-one_end};
 
 use sftp_handles::{GivenTable, Session};
-use sftp_tree::{NoMemory, Tree};
 use sftp_packets::{Reply, Request};
+use sftp_tree::{NoMemory, Tree};
 
 /// A judge of a session: the state of the session so far, and which reply to the next request leads to which state.
 pub trait Judges: Sized + Drop {

@@ -7,9 +7,9 @@ ghost use Rattle.sftp_listing.specs.Marked as first;
 
 use crate::listing::Listing;
 use crate::marks::item_at;
+use sftp_packets::{ByteString, NameItem, Names};
 use sftp_path::NoMemory;
 use sftp_tree::Item;
-use sftp_packets::{ByteString, NameItem, Names};
 use std::alloc::Global;
 
 impl Listing {

@@ -7,9 +7,9 @@ ghost use Rattle.sftp_tree.specs.Items.{entry_of};
 
 use crate::hints::{Hints, find_place};
 use crate::marks::{item_at, put_item, set_mark, take_unmarked};
+use sftp_packets::Attrs;
 use sftp_path::{Name, NoMemory};
 use sftp_tree::Item;
-use sftp_packets::Attrs;
 use std::alloc::Global;
 use std::collections::VecDeque;
 use std::marker::Model;

@@ -9,9 +9,9 @@ ghost use Rattle.sftp_tree.specs.Items.{entry_of};
 ghost use Rattle.sftp_listing.specs.Marked.{unmarked, unmarked_at, is_struck_first, with_attrs_at, ArePaired};
 ghost use Rattle.sftp_listing.specs.Marked.{IsNamed, IsGap};
 
+use sftp_packets::Attrs;
 use sftp_path::{Name, NoMemory};
 use sftp_tree::Item;
-use sftp_packets::Attrs;
 use std::collections::VecDeque;
 use std::mem::replace;
 

@@ -8,8 +8,8 @@ ghost use Rattle.sftp_listing.specs.Left as replies;
 
 use crate::attributes::same_attributes;
 use crate::listing::Listing;
-use sftp_path::{Name, NoMemory};
 use sftp_packets::{NameItem, Names};
+use sftp_path::{Name, NoMemory};
 use std::alloc::Global;
 use std::collections::BTreeSet;
 

@@ -28,8 +28,8 @@ use crate::place_causes::{
 use crate::plans::{Plan, file_of};
 use crate::room::move_fits;
 use crate::trees::Tree;
-use sftp_path::{Name, NoMemory, Place, absolute, good_path};
 use sftp_packets::{Ask, Attrs};
+use sftp_path::{Name, NoMemory, Place, absolute, good_path};
 
 /// A request that is judged by the paths that it names: its fields in the order of its packet.
 #[derive(Clone, Copy)]

@@ -13,8 +13,8 @@ use crate::entries::seen::Seen;
 use crate::file_numbers::FileNo;
 use crate::owners::changed_owner;
 use crate::trees::Tree;
-use sftp_treefile::Owner;
 use sftp_packets::Attrs;
+use sftp_treefile::Owner;
 
 /// The permissions of a new directory if none are given. This profile's own.
 const DIRECTORY_PERMISSIONS: u32 = 0o755;

@@ -4,8 +4,8 @@ ghost use Rattle.std.specs.List.{list_any};
 ghost use Rattle.sftp_tree.specs.PlaceCauses as sets;
 ghost use Rattle.sftp_tree.specs.Told.{in_set};
 
-use sftp_path::NoMemory;
 use sftp_packets::status::{BAD_MESSAGE, FAILURE, NO_SUCH_FILE, OP_UNSUPPORTED, PERMISSION_DENIED};
+use sftp_path::NoMemory;
 use std::alloc::{AllocError, AllocFailed};
 use std::fmt;
 use thiserror::Error;

@@ -13,8 +13,8 @@ use crate::asks::{PathAsk, path_ask};
 use crate::causes::{Cause, Causes, Refused};
 use crate::found::Found;
 use crate::trees::Tree;
-use sftp_path::{NoMemory, Place};
 use sftp_packets::Ask;
+use sftp_path::{NoMemory, Place};
 
 /// Where the paths of a request lead, or why they lead nowhere. `new` is of the second path, if there is one.
 #[derive(Drop)]

@@ -6,9 +6,9 @@ ghost use Rattle.sftp_tree.specs.Changes.{overwritten, written};
 ghost use Rattle.sftp_tree.specs.StoredFiles.{is_held_still, IsWritable};
 
 use crate::owners::changed_owner;
+use sftp_packets::Attrs;
 use sftp_path::NoMemory;
 use sftp_treefile::Owner;
-use sftp_packets::Attrs;
 use std::marker::Model;
 
 /// The bytes of a file.

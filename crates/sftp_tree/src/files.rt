@@ -14,8 +14,8 @@ ghost use Rattle.sftp_tree.specs.StoredFiles.{unpinned, without_pins};
 
 use crate::file_contents::{Content, Stored, change};
 use crate::file_numbers::FileNo;
-use sftp_path::NoMemory;
 use sftp_packets::Attrs;
+use sftp_path::NoMemory;
 use std::alloc::Global;
 use std::collections::BTreeMap;
 use std::marker::Model;

@@ -17,8 +17,8 @@ use crate::entries::directories::{Child, Dir};
 use crate::entries::seen::Seen;
 use crate::found::Found;
 use crate::trees::Tree;
-use sftp_path::{Name, NoMemory};
 use sftp_packets::Attrs;
+use sftp_path::{Name, NoMemory};
 use std::alloc::Global;
 
 /// A name in a directory, with the attributes that LSTAT shows of its node.

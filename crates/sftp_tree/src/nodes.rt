@@ -3,8 +3,8 @@ ghost use Rattle.std.specs.Prelude.{◌≡◌, option_copied};
 ghost use Rattle.sftp_tree.specs.StoredFiles.{file_named};
 
 use crate::file_numbers::FileNo;
-use sftp_treefile::Owner;
 use sftp_packets::ByteString;
+use sftp_treefile::Owner;
 
 /// The node at a place.
 #[derive(Drop)]

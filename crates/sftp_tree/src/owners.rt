@@ -3,8 +3,8 @@ ghost use Rattle.std.specs.Prelude.{◌≡◌};
 ghost use Rattle.sftp_treefile.specs.TreeFile.{IsOwner};
 ghost use Rattle.sftp_tree.specs.Attributes as spec;
 
-use sftp_treefile::Owner;
 use sftp_packets::Attrs;
+use sftp_treefile::Owner;
 
 /// Permissions have twelve bits.
 const PERMISSION_BITS: u32 = 0o7777;

@@ -11,8 +11,8 @@ use crate::entries::is_below;
 use crate::flags::{creates, excludes};
 use crate::found::{Found, is_root};
 use crate::trees::Tree;
-use sftp_path::Place;
 use sftp_packets::Attrs;
+use sftp_path::Place;
 
 impl Tree {
     /// The causes of a directory that is to be removed.

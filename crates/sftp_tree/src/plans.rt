@@ -25,9 +25,9 @@ use crate::found::Found;
 use crate::nodes::Node;
 use crate::owners::changed_owner;
 use crate::trees::Tree;
+use sftp_packets::{Attrs, ByteString};
 use sftp_path::{NoMemory, Place};
 use sftp_treefile::Owner;
-use sftp_packets::{Attrs, ByteString};
 
 /// What is to be done for a request that no cause refuses.
 #[derive(Drop)]

@@ -10,8 +10,8 @@ use crate::entries::seen::Seen;
 use crate::file_numbers::FileNo;
 use crate::found::Found;
 use crate::trees::Tree;
-use sftp_path::{DEPTH_LIMIT, Place};
 use sftp_packets::Attrs;
+use sftp_path::{DEPTH_LIMIT, Place};
 
 impl Tree {
     /// Whether one more entry, at a new place, keeps to the limits. The root is a place, but does not count as an

@@ -17,8 +17,8 @@ use crate::files::{Kind, Owner, Row};
 use crate::limits::TreeLimits;
 use crate::times::{NO_TIMES, Times};
 use byteorder::{BigEndian, ByteOrder};
-use sftp_path::{DEPTH_LIMIT, Place, good_path, place_of_text};
 use sftp_packets::{ByteString, take_number, take_string};
+use sftp_path::{DEPTH_LIMIT, Place, good_path, place_of_text};
 use std::alloc::{AllocError, Global};
 
 /// All the bits of permissions.

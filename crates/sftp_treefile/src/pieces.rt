@@ -19,9 +19,9 @@ use crate::heads::{Head, head_at};
 use crate::input::{Input, WINDOW};
 use crate::limits::TreeLimits;
 use crate::times::Times;
+use sftp_packets::{ByteString, take_number};
 use sftp_path::Place;
 use sftp_streams::Source;
-use sftp_packets::{ByteString, take_number};
 use std::alloc::{AllocError, Global};
 
 /// The bytes of an opening, after which the home's length is.

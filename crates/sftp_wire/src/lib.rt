@@ -15,6 +15,6 @@ pub use sftp_codec::encode;
 pub use sftp_packets::{
     Answer, Ask, AttrFlags, Attrs, ByteString, Fault, FieldKind, HANDLE_LIMIT, KNOWN_EXTENSIONS,
     Layout, NameItem, Names, OpenFlags, PACKET_LIMIT, Packet, Pairs, Reply, Request, Side, Tail,
-    WireError, asked_handle, ends_within, extension_name, layout_of, layouts_of, may_get, packet_name,
-    status, take_number, take_string,
+    WireError, asked_handle, ends_within, extension_name, layout_of, layouts_of, may_get,
+    packet_name, status, take_number, take_string,
 };

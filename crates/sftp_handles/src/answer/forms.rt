@@ -5,8 +5,8 @@ ghost use Rattle.sftp_packets.specs.Spelling.{no_attributes};
 ghost use Rattle.sftp_handles.specs.Replies as spec;
 ghost use Rattle.sftp_handles.specs.Payloads.{status_of, only_name};
 
-use sftp_tree::NoMemory;
 use sftp_packets::{Answer, Attrs, ByteString, NameItem, Names};
+use sftp_tree::NoMemory;
 use std::alloc::Global;
 
 /// A status with this code, whose texts are empty. Does not allocate.

@@ -15,9 +15,9 @@ use crate::not_opened::NotOpened;
 use crate::open_listings::give_first;
 use crate::sessions::Session;
 use crate::tables::HandleTable;
-use sftp_tree::{Cause, NoMemory, Refused};
 use sftp_packets::status::EOF;
 use sftp_packets::{Answer, Ask, ByteString};
+use sftp_tree::{Cause, NoMemory, Refused};
 
 /// How many names a reply to READDIR gives at most.
 const NAMES_IN_REPLY: usize = 32;

@@ -12,9 +12,9 @@ ghost use Rattle.sftp_tree.specs.Attributes as listings;
 mod appending;
 
 use crate::file_numbers::FileNo;
+use sftp_packets::ByteString;
 use sftp_path::Name;
 use sftp_treefile::Owner;
-use sftp_packets::ByteString;
 use std::alloc::Global;
 use std::collections::{BTreeMap, btree_map};
 use std::marker::Model;

@@ -18,12 +18,12 @@ use crate::entries::Entries;
 use crate::file_numbers::FileNo;
 use crate::nodes::Node;
 use crate::trees::Tree;
+use sftp_packets::ByteString;
 use sftp_path::{NoMemory, Place, absolute};
 use sftp_streams::{Sink, Tally};
 use sftp_treefile::{
     EntryTimes, Head, Owner, Times, WriteError, send_further_name, send_head, send_timed_file,
 };
-use sftp_packets::ByteString;
 use std::collections::BTreeMap;
 
 /// The owner of what has none.
