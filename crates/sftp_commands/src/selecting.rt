@@ -129,7 +129,7 @@ fn number_or(text: &str, without: u64) -> Option<u64> {
 fn bad_range(alloc: Global, text: &str) -> Result<String, AllocError> {
     let text = Named(text);
     format!(in alloc;
-        "error: invalid value '{text}' for '--records <A-B>': neither a number, nor two rising ones with '-' between them\n{MORE}"
+        "error: invalid value '{text}' for '--records <A-B>': neither a number, nor A-B with A at most B\n{MORE}"
     )
 }
 
