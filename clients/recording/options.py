@@ -204,15 +204,28 @@ def open_notices(options):
 READING = ("bash", "csh", "fish", "tcsh", "zsh")
 
 
+def can_be_written(process):
+    """Whether other processes of the user, such as the server for its client, can write into the memory of this one."""
+    try:
+        os.close(os.open(f"/proc/{process}/mem", os.O_RDWR))
+    except OSError:
+        return False
+    return True
+
+
 def shell_warning():
     """What is wrong with the login shell of a user whose record is required, or None."""
     try:
         user = pwd.getpwuid(os.getuid())
     except KeyError:
         return None
+    if "SSH_CONNECTION" not in os.environ:
+        return None
     shell = os.path.basename(user.pw_shell)
-    if "SSH_CONNECTION" in os.environ and shell in READING and os.access(user.pw_dir, os.W_OK):
+    if shell in READING and os.access(user.pw_dir, os.W_OK):
         return f"the login shell {shell} reads files of the user before the recorder starts: give this user /bin/sh"
+    if os.getuid() and can_be_written(os.getppid()):
+        return "the login shell waits, and a client can write into its memory: write exec in front of the recorder"
     return None
 
 

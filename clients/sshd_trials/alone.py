@@ -9,6 +9,10 @@ from sshd_trials import page
 from sshd_trials.clients import OPTIONS, Where, run
 from sshd_trials.days import CONFIG, reload
 from trials.processes import wait_until
+from trials.sessions import Client
+
+# The type of the reply that has a handle, and what OPEN is asked for: to read and to write.
+HANDLE, BOTH = 102, 3
 
 MADE = """
 useradd --create-home --password '*' --shell /bin/sh w
@@ -36,6 +40,20 @@ def is_reached(user, room):
     return found
 
 
+def opened(user):
+    """The processes of a user in a session, and those of them whose memory the session's client opens to write."""
+    words = ["ssh", *OPTIONS, f"{user}@127.0.0.1", "-s", "sftp"]
+    with subprocess.Popen(words, stdin=subprocess.PIPE, stdout=subprocess.PIPE, bufsize=0) as ssh:
+        client = Client(ssh.stdin.fileno(), ssh.stdout.fileno())
+        client.greet()
+        # the recorder is Python by then
+        there = run(["pgrep", "-u", user, "-a"]).stdout.splitlines()
+        found = [it for it in there
+                 if client.ask("OPEN", f"/proc/{it.split()[0]}/mem".encode(), BOTH, {})[4] == HANDLE]
+        ssh.kill()
+    return there, found
+
+
 def try_account(steps, room):
     before = CONFIG.read_text()
     run(["sh", "-e", "-c", MADE])
@@ -45,6 +63,9 @@ def try_account(steps, room):
     reload()
     steps.check("SFTP alone: no socket is reached by forwarding, as it was before", was_reached and
                 not is_reached("w", room))
+    there, found = opened("w")
+    steps.check("SFTP alone: a client opens the memory of no process to write", len(there) > 2 and not found,
+                f"{found} of {there}")
     where = Where("w", "/home/w", "/home/w", room)
     ran = where.batch("-mkdir .config", "-rename .ssh mine", "-rm .profile", f"put {where.large} files/large")
     steps.check("SFTP alone: a session does its work, in its folder and not in the home", ran.returncode == 0 and
