@@ -287,9 +287,10 @@ def record_any(options):
         from recording.packets import plain as change
     try:
         session = Session(server, signals, notices, options, change)
-    except (OSError, MemoryError):
+    except (OSError, MemoryError) as error:
         records.take_back()
-        raise
+        notices.say(told(error))
+        return OWN_FAILURE, 1
     if options.audit:
         session.audit = open_audit(options, notices)
     if records.record:
@@ -302,14 +303,20 @@ def record_any(options):
     return status, session.asked.packets
 
 
+def told(error):
+    """What is said of want of memory, or of a call of the system that failed, with the file that it names."""
+    if isinstance(error, MemoryError):
+        return "out of memory"
+    name = "" if error.filename is None else f"{os.fsdecode(error.filename)}: "
+    return f"{name}{error.strerror or error}"
+
+
 def run(act, name):
     """Does the work of a program. No fault ends with a traceback, or with status 0."""
     try:
         return act()
-    except MemoryError:
-        write_error(f"{name}: out of memory\n")
-    except OSError as error:
-        write_error(f"{name}: {error.strerror or error}\n")
+    except (MemoryError, OSError) as error:
+        write_error(f"{name}: {told(error)}\n")
     return OWN_FAILURE
 
 
