@@ -19,6 +19,19 @@ def before_the_first(steps, place):
                                                                               "dots", "--profile", "posix"])
 
 
+def of_another_mask(steps, place):
+    """An option of the audit without a profile is added to the usual ones, or takes the place of one."""
+    place.words[-1] = "027"
+    local = place.room / "local"
+    local.write_text("bytes")
+    place.begin("mkdir d", f"put {local} d/f", "ls -l d")
+    place.check(steps, "a server with another mask: --umask alone says it", 0, "3 sessions accepted; " + ENDS_WELL,
+                words=["--", "--umask", "027"])
+    place.session("mkdir e")
+    place.check(steps, "one that is given takes the place of the usual one", 0, "1 session accepted; " + ENDS_WELL,
+                words=["--", "--umask=027", "--new-owner=user", "--cut"])
+
+
 def ordinary(steps, place):
     place.check(steps, "the first run makes the tree", 0, "the tree of the start has ")
     place.check(steps, "a day without sessions", 0, "0 sessions accepted; " + ENDS_WELL)
@@ -135,5 +148,5 @@ def overlapping(steps, place):
                 "refused record ", "(beside ")
 
 
-TRIALS = (before_the_first, ordinary, changed_by_others, of_a_group, nothing_asked, running, begun_meanwhile,
-          overlapping)
+TRIALS = (before_the_first, of_another_mask, ordinary, changed_by_others, of_a_group, nothing_asked, running,
+          begun_meanwhile, overlapping)

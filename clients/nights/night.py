@@ -36,15 +36,25 @@ NEAR, NAMED = 200, 5
 
 
 def usual(program_file):
-    """The options of an audit of users' sessions, as far as the program has them. The system gives what is made in a
-    folder with the set-gid bit the folder's group."""
+    """The options of an audit of users' sessions, as far as the program has them: the words of each. The system gives
+    what is made in a folder with the set-gid bit the folder's group."""
     done = subprocess.run([program_file, "help", "audit"], stdout=subprocess.PIPE, check=False)
     if done.returncode:
         # sessions are not judged by fewer options than the program has
         raise Failed(f"{program_file} help audit ended with status {done.returncode}")
     text = done.stdout.decode()
     profile = "posix-user" if "posix-user" in text else "posix"
-    return ["--profile", profile] + ["--cut"] * ("--cut" in text) + ["--new-owner", "posix"] * ("group, posix" in text)
+    return [["--profile", profile], *[["--cut"]] * ("--cut" in text),
+            *[["--new-owner", "posix"]] * ("group, posix" in text)]
+
+
+def options_of(program_file, given):
+    """The options of an audit: those that are given, and the usual ones in whose place none of them is. A profile takes
+    the place of all of these."""
+    names = {it.partition("=")[0] for it in given}
+    if "--profile" in names:
+        return list(given)
+    return [word for words in usual(program_file) if words[0] not in names for word in words] + given
 
 
 class WrongOption(Exception):
@@ -53,6 +63,8 @@ class WrongOption(Exception):
 
 def try_options(program_file, options):
     """Raises WrongOption before anything is made by them. The program reads its options first; there are no files."""
+    if "--json" in options:
+        raise WrongOption("--json: a night reads the lines that an audit prints for people")
     words = [program_file, "audit", *options, "--explain"]
     for name in ("--tree", "--transcript", "--out"):
         words += [name, os.path.join(os.devnull, "none")]
@@ -97,7 +109,7 @@ class Night:
 
     def __init__(self, given):
         self.given, self.program = given, program.program()
-        self.options = given.audit or usual(self.program)
+        self.options = options_of(self.program, given.audit)
         if not any(it.partition("=")[0] == "--memory" for it in self.options):
             self.options += ["--memory", str(given.memory)]
         if given.audit:

@@ -10,7 +10,7 @@ from record_trials.ends import whole
 from record_trials.steps import INIT, RECORD, STUB, errors, open_session
 from sftp3 import request
 from trials.disks import small_disk
-from trials.processes import SOON, ended, executable, limited, worked
+from trials.processes import SOON, ended, executable, is_done, limited, worked
 
 
 def run(room, *words, data=b"", **options):
@@ -155,6 +155,26 @@ def few_descriptors(steps, room):
             (room.folder / it).unlink()
 
 
+# Runs a command where /dev has nothing, as in a ChrootDirectory that was not set up.
+WITHOUT_DEVICES = ["unshare", "--mount", "sh", "-c", 'mount -t tmpfs none /dev && exec "$@"', "sh"]
+
+
+def said_in_the_log(steps, room):
+    """What keeps a session from its beginning is in the log, since sshd throws away what goes to standard error."""
+    words = [RECORD, "--required", "--log", room.folder / "log", room.folder / "t", STUB]
+    tried = [("few descriptors", b"Too many open files", [], limited(resource.RLIMIT_NOFILE, it)) for it in
+             range(10, 20)]
+    if is_done([*WITHOUT_DEVICES, "true"]):
+        tried.append(("no /dev/null", b"/dev/null: No such file or directory", WITHOUT_DEVICES, None))
+    for name, why, before, act in tried:
+        ran = subprocess.run([*before, *map(str, words)], input=INIT, capture_output=True, preexec_fn=act)
+        log = room.read("log") if (room.folder / "log").exists() else ran.stderr
+        steps.check(f"{name}: a session, or the log says why there is none", ran.returncode == 0 or
+                    ran.returncode in (3, 126) and why in log, f"{ran} {log}")
+        for it in room.folder.iterdir():
+            it.unlink()
+
+
 def on_a_small_disk(steps, room, asked, size):
     with small_disk(room.folder / "small", "64k") as is_there:
         if not is_there:
@@ -232,5 +252,5 @@ def foreign_code(steps, room):
     steps.check("no code of the user runs in the recorder", not found and ran.stdout == INIT, f"{found} {ran}")
 
 
-TRIALS = (commands, other_commands, files_named_twice, full_disks, few_descriptors, long_packets, little_memory,
-          foreign_code)
+TRIALS = (commands, other_commands, files_named_twice, full_disks, few_descriptors, said_in_the_log, long_packets,
+          little_memory, foreign_code)

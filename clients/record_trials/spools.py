@@ -12,6 +12,7 @@ from pathlib import Path
 import sftp3
 from record_trials.steps import (INIT, RECORD, STUB, TOP, close, errors, leave, meet, open_session, receive,
                                  receive_within, stubs)
+from recording.auditing import SCOPE, setting
 from sftp3 import request
 from trials.processes import SOON, ended, executable, make_user, remove_user, run, wait_until
 
@@ -364,8 +365,20 @@ def other_user(steps, room):
             steps.check(f"that user cannot {command.split()[0]}: {command.replace(str(room.folder), '..')}",
                         ran.returncode != 0)
         steps.check("the record is as it was", found == spool.records() and found[0].read_bytes() == before)
+        started_by_a_shell(steps, process.args, become)
     finally:
         remove_user(OTHER)
+
+
+def started_by_a_shell(steps, words, become):
+    """A shell that waits for the recorder has a memory that the user's server can write to, unless Yama forbids it."""
+    is_open = setting(SCOPE, "0") == "0"
+    for name, script in (("waits for", '"$@"; exit $?'), ("gives its place to", 'exec "$@"')):
+        ran = subprocess.run(["sh", "-c", script, "sh", *map(str, words)], input=INIT, capture_output=True, cwd="/",
+                             env={**os.environ, "SSH_CONNECTION": "192.0.2.7 4711 192.0.2.8 22"}, **become)
+        is_said = b"write exec in front of the recorder" in ran.stderr
+        steps.check(f"a shell that {name} the recorder: {'a line' if name == 'waits for' else 'no line'} says so",
+                    ran.returncode == 0 and is_said == (is_open and name == "waits for"), str(ran))
 
 
 TRIALS = (kept, both_ways, without_proc, lost_spools, hanging_daemon, paused, begun_and_left, limits, hostile, unfit,

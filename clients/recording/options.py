@@ -204,15 +204,28 @@ def open_notices(options):
 READING = ("bash", "csh", "fish", "tcsh", "zsh")
 
 
+def can_be_written(process):
+    """Whether other processes of the user, such as the server for its client, can write into the memory of this one."""
+    try:
+        os.close(os.open(f"/proc/{process}/mem", os.O_RDWR))
+    except OSError:
+        return False
+    return True
+
+
 def shell_warning():
     """What is wrong with the login shell of a user whose record is required, or None."""
     try:
         user = pwd.getpwuid(os.getuid())
     except KeyError:
         return None
+    if "SSH_CONNECTION" not in os.environ:
+        return None
     shell = os.path.basename(user.pw_shell)
-    if "SSH_CONNECTION" in os.environ and shell in READING and os.access(user.pw_dir, os.W_OK):
+    if shell in READING and os.access(user.pw_dir, os.W_OK):
         return f"the login shell {shell} reads files of the user before the recorder starts: give this user /bin/sh"
+    if os.getuid() and can_be_written(os.getppid()):
+        return "the login shell waits, and a client can write into its memory: write exec in front of the recorder"
     return None
 
 
@@ -274,9 +287,10 @@ def record_any(options):
         from recording.packets import plain as change
     try:
         session = Session(server, signals, notices, options, change)
-    except (OSError, MemoryError):
+    except (OSError, MemoryError) as error:
         records.take_back()
-        raise
+        notices.say(told(error))
+        return OWN_FAILURE, 1
     if options.audit:
         session.audit = open_audit(options, notices)
     if records.record:
@@ -289,14 +303,20 @@ def record_any(options):
     return status, session.asked.packets
 
 
+def told(error):
+    """What is said of want of memory, or of a call of the system that failed, with the file that it names."""
+    if isinstance(error, MemoryError):
+        return "out of memory"
+    name = "" if error.filename is None else f"{os.fsdecode(error.filename)}: "
+    return f"{name}{error.strerror or error}"
+
+
 def run(act, name):
     """Does the work of a program. No fault ends with a traceback, or with status 0."""
     try:
         return act()
-    except MemoryError:
-        write_error(f"{name}: out of memory\n")
-    except OSError as error:
-        write_error(f"{name}: {error.strerror or error}\n")
+    except (MemoryError, OSError) as error:
+        write_error(f"{name}: {told(error)}\n")
     return OWN_FAILURE
 
 

@@ -4,12 +4,12 @@ import heapq
 import os
 import re
 import stat
-from contextlib import ExitStack
+from contextlib import ExitStack, contextmanager
 from typing import Dict, FrozenSet, Iterator, List, NamedTuple, Optional, Tuple
 
 from recording import mounted
 from recording.ways import Way, names
-from sftp3.trees import MOST
+from sftp3.trees import MOST, text_of
 
 # What is mounted where, in the fifth word of each line; spaces and the like are written as octal numbers.
 MOUNTS = "/proc/self/mountinfo"
@@ -39,6 +39,21 @@ class Entry(NamedTuple):
 def shown(place: Place) -> str:
     """A place as a line of text."""
     return ascii(os.fsdecode(b"/" + b"/".join(place)))[1:-1]
+
+
+def changed(place: Place) -> Trouble:
+    return Trouble(f"{shown(place)}: changed while it was read")
+
+
+@contextmanager
+def about(place: Place) -> Iterator[None]:
+    """Has an error name the place that is looked at. What is gone by then has changed."""
+    try:
+        yield
+    except FileNotFoundError:
+        raise changed(place) from None
+    except OSError as error:
+        raise OSError(error.errno, error.strerror, text_of(place)) from None
 
 
 def mount_points() -> List[Place]:
@@ -79,7 +94,8 @@ class Look:
         """All below a directory, in the order of tree files."""
         beside = mounted.number_of(directory)
         for name in self.names_in(directory, place):
-            state = state_of(name, directory, beside)
+            with about(place + (name,)):
+                state = state_of(name, directory, beside)
             entry = Entry(place + (name,), state, directory, name, place + (name,) in self.mounts or state is None)
             if len(entry.place) > DEEPEST:
                 raise Trouble(f"{shown(entry.place)}: more than {DEEPEST} names below the root")
@@ -88,7 +104,8 @@ class Look:
                 yield from self.below_entry(entry)
 
     def below_entry(self, entry: Entry) -> Iterator[Entry]:
-        held = mounted.folder_at(entry.name, entry.directory)
+        with about(entry.place):
+            held = mounted.folder_at(entry.name, entry.directory)
         try:
             yield from self.below(held, entry.place)
         finally:

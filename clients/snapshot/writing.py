@@ -6,7 +6,7 @@ from typing import BinaryIO, Callable, Dict, NamedTuple, Tuple
 from recording import mounted
 from sftp3 import trees
 from sftp3.trees import HIGHEST, LONGEST_NAME, MOST, USUAL, text_of
-from snapshot.looking import Entry, Trouble, View, is_mounted_over, kind, shown
+from snapshot.looking import Entry, Trouble, View, about, changed, is_mounted_over, kind, shown
 
 PIECE = 1 << 20
 
@@ -19,10 +19,12 @@ BECAME = {
 
 
 class Owner(NamedTuple):
-    """Where relative paths start, and who owns what a session makes."""
+    """Where relative paths start, and who owns what a session makes. A home that `is_sought` counts only if it is a
+    directory of the tree: else they start in the root."""
     home: bytes
     user: int
     group: int
+    is_sought: bool = False
 
 
 class Wanted(NamedTuple):
@@ -59,10 +61,11 @@ class FirstNames:
 
 class Needs:
     """What a view needs: how many entries, the bytes of the largest file, and those of the tree file behind its head;
-    and what is left out."""
+    what is left out; and whether it has the directory `home`."""
 
-    def __init__(self, view: View, wanted: Wanted, tell: Callable[[str], None]):
+    def __init__(self, view: View, wanted: Wanted, home: bytes, tell: Callable[[str], None]):
         self.entries = self.largest = self.left_out = self.bytes = refused = 0
+        self.home, self.has_home = home, False
         named = FirstNames()
         for entry in view.entries():
             tell_of(entry, wanted, tell)
@@ -82,6 +85,7 @@ class Needs:
         self.entries += 1
         path, size = text_of(entry.place), entry.state.st_size
         if stat.S_ISDIR(entry.state.st_mode):
+            self.has_home = self.has_home or path == self.home
             self.bytes += len(trees.directory(path, (0, 0, 0)))
         elif stat.S_ISLNK(entry.state.st_mode):
             self.bytes += len(trees.link(path, target_of(entry)))
@@ -157,20 +161,22 @@ class Writer:
         if kind(entry):
             self.write(trees.file_of(path, owner_of(entry.state), 0))
             return
-        held = mounted.open_at(entry.name, entry.directory, os.O_RDONLY | os.O_NONBLOCK)
+        with about(entry.place):
+            held = mounted.open_at(entry.name, entry.directory, os.O_RDONLY | os.O_NONBLOCK)
         with open(held, "rb", buffering=0) as source:
             state = os.fstat(held)
             if not stat.S_ISREG(state.st_mode) or state.st_size != entry.state.st_size:
-                raise changed(entry)
+                raise changed(entry.place)
             self.write(trees.file_of(path, owner_of(state), state.st_size))
             self.copy(source, entry)
 
     def copy(self, source, entry: Entry) -> None:
         left = entry.state.st_size
         while left:
-            piece = source.read(min(left, PIECE))
+            with about(entry.place):
+                piece = source.read(min(left, PIECE))
             if not piece:
-                raise changed(entry)
+                raise changed(entry.place)
             left -= len(piece)
             self.write(piece)
         self.bytes += entry.state.st_size
@@ -178,29 +184,27 @@ class Writer:
 
 def target_of(entry: Entry) -> bytes:
     """The target of a link. docs/TREE.md: a good path has no name of more than 255 bytes."""
-    target = entry.target or os.readlink(entry.name, dir_fd=entry.directory)
+    with about(entry.place):
+        target = entry.target or os.readlink(entry.name, dir_fd=entry.directory)
     if not target or any(len(name) > LONGEST_NAME for name in target.split(b"/")):
         raise Trouble(f"{shown(entry.place)}: the link's target is empty or has a name of more than {LONGEST_NAME} "
                       "bytes")
     return target
 
 
-def changed(entry: Entry) -> Trouble:
-    return Trouble(f"{shown(entry.place)}: changed while it was read")
-
-
 def write(view: View, owner: Owner, wanted: Wanted, file: BinaryIO, tell: Callable[[str], None]) -> Writer:
     """Writes the tree file, and gives what was counted. What changes meanwhile is Trouble."""
-    needs = Needs(view, wanted, tell)
+    needs = Needs(view, wanted, owner.home, tell)
     limits = needs.limits(wanted.limits)
-    head = trees.head(owner.home, (owner.user, owner.group), limits, needs.entries, owner_of(view.root_state()))
+    home = b"/" if owner.is_sought and not needs.has_home else owner.home
+    head = trees.head(home, (owner.user, owner.group), limits, needs.entries, owner_of(view.root_state()))
     needs.check_room(file, len(head), wanted.most)
     writer = Writer(file, needs.entries, len(head) + needs.bytes)
     writer.write(head)
     for entry in view.entries():
         if not wanted.leaves_out(entry):
             if entry.state.st_size > limits[1] and stat.S_ISREG(entry.state.st_mode):
-                raise changed(entry)
+                raise changed(entry.place)
             writer.put(entry)
     if writer.count != needs.entries:
         raise Trouble("the folder changed while it was read")

@@ -23,7 +23,7 @@ SETTINGS = """UsePAM {pam}
 DisableForwarding yes
 PermitTTY no
 Subsystem sftp {server}
-ForceCommand {record} --required --log {folder}/said --spool {socket} {server}
+ForceCommand exec {record} --required --log {folder}/said --spool {socket} {server}
 """
 
 # What /etc/pam.d/sshd of Debian 12 has for the environment.
