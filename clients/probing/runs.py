@@ -221,7 +221,8 @@ class Run:
         skip = features.BEYOND.difference(self.given.also).union(self.given.skip)
 
         def steps_of(seed):
-            return self.auditor.lacks.steps(self.recorded if self.given.session else self.planned(seed, skip))
+            steps = self.recorded if self.given.session else self.planned(seed, skip)
+            return self.given.limits.cut(self.auditor.lacks.steps(steps))
         self.tally.planned = len(numbers)
 
         def task_of(place, number):
@@ -349,6 +350,8 @@ class Run:
             trouble = error
             self.progress.clear()
             self.halt.set(why_failed(error))
+            for group in self.groups.all():
+                group.fail()
             if not self.groups.by_key:
                 raise
         self.tally.stopped = self.halt.why or self.playing.why or ("--patience" if self.until.is_set() else None)
