@@ -115,6 +115,9 @@ class one_name(Usual):
         self.left = {}
 
     def answer(self, asked, packet):
+        if asked.name == "CLOSE":
+            # the handle may be given again
+            self.left.pop(asked.handle(), None)
         if asked.name != "READDIR":
             return super().answer(asked, packet)
         found = self.left.setdefault(asked.handle(), [])
