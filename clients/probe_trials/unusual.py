@@ -4,7 +4,7 @@ import re
 
 from probe_trials.runs import probe, side_by_side
 from probing.program import program
-from trials.probes import SERVE, faulty_before, serve, stand_in
+from trials.probes import SERVE, faulty_before, misbehaving, serve, stand_in
 
 # Servers of probing/unusual.py that are accepted as they are.
 ACCEPTED = ["many-extensions", "one-name", "single-bytes", "noisy", "failed-at-end", "late"]
@@ -17,6 +17,7 @@ TOLD = [
     ("few-handles", ["--limits", "handles=20"], []),
     ("days-of-access", ["--without", "access-times"], ["--times"]),
     ("no-times", ["--skip", "times"], ["--times"]),
+    ("one-owner", ["--skip", "owner"], []),
     ("no-links", ["--skip", "HARDLINK,READLINK,SYMLINK"], []),
 ]
 
@@ -45,7 +46,7 @@ def try_kept(steps, folder):
 def try_told(steps, folder):
     """What some servers do not have: the probe tells by which words it is left out."""
     def tell(kind, words, more):
-        few = ["--seeds", "1-4", "--timeout", "3", "--budget", "10", "--keep", os.path.join(folder, kind)]
+        few = ["--seeds", "1-5", "--timeout", "3", "--budget", "10", "--keep", os.path.join(folder, kind)]
         status, said, _ = probe(*few, "--", *unusual(kind, *more))
         advised = re.findall("^probe: .* play again with (--(?:limits|without|skip) .*)$", said, re.MULTILINE)
         steps.check(f"{kind}: differences, and {' '.join(words)} is advised", status == 1 and
@@ -53,6 +54,29 @@ def try_told(steps, folder):
         status, said, _ = probe(*few, *words, "--", *unusual(kind, *more))
         steps.check(f"{kind}, {' '.join(words)}: accepted", status == 0, said)
     side_by_side(tell, TOLD)
+
+
+def try_one_at_a_time(steps, folder):
+    """A server of which one runs at a time, as by a lock or a port: those that run side by side are its user's."""
+    lock = os.path.join(folder, "lock")
+    server = ["sh", "-c", 'exec flock -n "$0" "$@"', lock, *SERVE]
+    few = ["--seeds", "1-8", "--budget", "0", "--keep", os.path.join(folder, "locked")]
+    status, said, _ = probe(*few, "--jobs", "3", "--", *server)
+    # it depends on which of them is the first
+    steps.check("one at a time: status 1 or 3, and --jobs 1 is advised", status in (1, 3) and
+                "play again with --jobs 1\n" in said, said)
+    status, said, _ = probe(*few, "--jobs", "1", "--", *server)
+    steps.check("one at a time, --jobs 1: accepted", status == 0, said)
+    status, said, _ = probe(*few, "--jobs", "1", "--", *misbehaving("starts-at-times"),
+                            env=dict(os.environ, MISBEHAVING_COUNT=f"{lock}.count"))
+    steps.check("one that does not start at times: --jobs 1, which is given, is not advised", status == 1 and
+                "--jobs" not in said, said)
+    live = "{folder}/live"
+    status, said, _ = probe(*few, "--also", "two-clients", "--tree", f"{folder}/usual.tree", "--reset",
+                            f"cp {folder}/usual.tree {live}", "--", *server[:4], program(), "serve", "--tree", live,
+                            "--save", live)
+    steps.check("one at a time, two clients: status 3, and which server did not start", status == 3 and
+                "probe: the second of two servers: no VERSION came: " in said, said)
 
 
 def try_not_told(steps, folder):
@@ -65,4 +89,4 @@ def try_not_told(steps, folder):
     steps.check("sftpv3 serve with little room is accepted", status == 0, said)
 
 
-TRIALS = (try_accepted, try_kept, try_told, try_not_told)
+TRIALS = (try_accepted, try_kept, try_told, try_one_at_a_time, try_not_told)

@@ -96,7 +96,7 @@ def departures(group):
 def advice(found, auditor):
     """What to say of the groups that were found, if other options may suit the server."""
     said = [of_profile(found, auditor), of_lacking(found), of_packets(found), of_handles(found), of_access(found),
-            of_unsupported(found)]
+            of_refused(found)]
     return [line for line in said if line]
 
 
@@ -180,20 +180,34 @@ def of_access(found):
 
 
 # The requests that not every server does, and the attributes that not every server sets, by which --skip names them.
-OPTIONAL, SETTABLE = {"SYMLINK", "READLINK", "HARDLINK", "POSIX-RENAME", "FSYNC"}, {"times": "times", "owner": "owner"}
+OPTIONAL, SETTABLE = {"SYMLINK", "READLINK", "HARDLINK", "POSIX-RENAME", "FSYNC"}, {"times", "owner"}
 
 
-def of_unsupported(found):
-    """What to say where a server says of requests that it has none of these; None if it has all."""
+def of_refused(found):
+    """What to say where a server refuses what some servers are meant to: what it says that it has not (code 8), and to
+    set times, or an owner; None if there is nothing."""
     words = set()
     for group in found:
-        if not group.found.startswith("STATUS with code 8 ") or " code 8 " in group.expected:
+        if not group.found.startswith("STATUS with code ") or group.expected.startswith("STATUS with code 8 "):
             continue
         asked = sftp3.decode(group.first.session.records[group.first.request][1])
-        given = asked.fields[1] if asked.name in ("SETSTAT", "FSETSTAT") else {}
-        words |= {asked.name} & OPTIONAL | {word for field, word in SETTABLE.items() if given.keys() == {field}}
-    return f"the server has no {', '.join(sorted(words))}: to see what else differs, play again with --skip " \
-        f"{','.join(sorted(words))}" if words else None
+        if group.found.startswith("STATUS with code 8 "):
+            words |= {asked.name} & OPTIONAL
+        if asked.name in ("SETSTAT", "FSETSTAT") and group.expected.startswith("STATUS with code 0 "):
+            words |= SETTABLE & asked.fields[1].keys() if len(asked.fields[1]) == 1 else set()
+    names = ",".join(sorted(words))
+    return f"the server refuses what has {names}: if it is meant to, play again with --skip {names}" if words else None
+
+
+def of_start(found, jobs):
+    """What to say where a server did not start beside others; None if all started, or none ran beside."""
+    return beside(jobs) if any(group.first.verdict.kind == "NotStarted" for group in found) else None
+
+
+def beside(jobs):
+    """What to say of a server that did not start, with so many side by side; None if it was alone."""
+    return (f"up to {jobs} servers ran side by side: if only one of yours can, as with a lock or a port of its own, "
+            "play again with --jobs 1") if jobs > 1 else None
 
 
 def of_kinds(count, found):

@@ -246,7 +246,8 @@ class Run:
             if outcome is None:
                 continue
             if outcome.not_started and not self.tally.played:
-                raise outcome.not_started
+                why = [str(outcome.not_started), hints.beside(self.pool.jobs)]
+                raise NotStarted("\n".join(filter(None, why)))
             self.take(outcome)
             if outcome.differences and self.given.first:
                 self.playing.set("--first")
@@ -336,7 +337,8 @@ class Run:
     def advice(self, found):
         """What to do otherwise in the next run."""
         budget = None if self.until.is_set() else hints.of_budget(found, self.given.budget)
-        return [line for line in (*hints.advice(found, self.auditor), self.root.advice(), budget) if line]
+        start = hints.of_start(found, self.pool.jobs)
+        return [line for line in (*hints.advice(found, self.auditor), start, self.root.advice(), budget) if line]
 
     def run(self):
         """Gives the exit status."""

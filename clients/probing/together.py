@@ -95,7 +95,10 @@ class Both:
         self.steps, self.first.waiting = list(self.first.waiting), type(self.first.waiting)()
         other = self.start_other()
         self.players.append(other)
-        other.opening()
+        try:
+            other.opening()
+        except sessions.NotStarted as error:
+            raise sessions.NotStarted(f"the second of two servers: {error}") from None
         other.running.started, other.session = self.first.running.started, self.session
         other.most = other.left = self.first.most
         while self.steps and not self.session.end:

@@ -185,6 +185,15 @@ class no_times(Usual):
         return super().answer(asked, packet)
 
 
+class one_owner(Usual):
+    """It gives nothing to other users than its own, as in a container that has no others."""
+
+    def answer(self, asked, packet):
+        if asked.name in ("SETSTAT", "FSETSTAT") and asked.fields[1].get("owner", (0, 0)) != (0, 0):
+            return sftp3.status(asked.number, sftp3.BAD_MESSAGE)
+        return super().answer(asked, packet)
+
+
 class no_links(Usual):
     """It has no links and no further names."""
 
