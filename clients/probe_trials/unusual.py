@@ -17,6 +17,7 @@ TOLD = [
     ("few-handles", ["--limits", "handles=20"], []),
     ("days-of-access", ["--without", "access-times"], ["--times"]),
     ("no-times", ["--skip", "times"], ["--times"]),
+    ("texts-alone", ["--skip", "not-utf-8"], []),
     ("one-owner", ["--skip", "owner"], []),
     ("no-links", ["--skip", "HARDLINK,READLINK,SYMLINK"], []),
 ]

@@ -7,7 +7,7 @@ So a wrong order of SYMLINK's paths is not named where the session has others th
 import os
 
 import sftp3
-from probing import groups, lacking, plans, restarts, set_times, verdicts
+from probing import features, groups, lacking, plans, restarts, set_times, verdicts
 from sftp3 import trees
 
 # The most seconds that all of this takes.
@@ -184,19 +184,24 @@ OPTIONAL, SETTABLE = {"SYMLINK", "READLINK", "HARDLINK", "POSIX-RENAME", "FSYNC"
 
 
 def of_refused(found):
-    """What to say where a server refuses what some servers are meant to: what it says that it has not (code 8), and to
-    set times, or an owner; None if there is nothing."""
-    words = set()
-    for group in found:
-        if not group.found.startswith("STATUS with code ") or group.expected.startswith("STATUS with code 8 "):
-            continue
-        asked = sftp3.decode(group.first.session.records[group.first.request][1])
-        if group.found.startswith("STATUS with code 8 "):
-            words |= {asked.name} & OPTIONAL
-        if asked.name in ("SETSTAT", "FSETSTAT") and group.expected.startswith("STATUS with code 0 "):
-            words |= SETTABLE & asked.fields[1].keys() if len(asked.fields[1]) == 1 else set()
+    """What to say where a server refuses what some servers are meant to; None if there is nothing."""
+    words = set().union(*map(refused, found))
     names = ",".join(sorted(words))
     return f"the server refuses what has {names}: if it is meant to, play again with --skip {names}" if words else None
+
+
+def refused(group):
+    """The words of --skip for what is refused: what the server says that it has not (code 8), to set times or an owner,
+    and names that are no UTF-8."""
+    is_done = group.expected.startswith("STATUS with code 0 ") or not group.expected.startswith("STATUS")
+    code = group.found.removeprefix("STATUS with code ").split(" ")[0]
+    if code in (group.found.split(" ")[0], "0") or group.expected.startswith("STATUS with code 8 "):
+        return set()
+    asked = sftp3.decode(group.first.session.records[group.first.request][1])
+    found = {asked.name} & OPTIONAL if code == "8" else set()
+    if is_done and asked.name in ("SETSTAT", "FSETSTAT") and len(asked.fields[1]) == 1:
+        found |= SETTABLE & asked.fields[1].keys()
+    return found | {"not-utf-8"} & features.of_request(asked.name, asked.fields) if is_done else found
 
 
 def of_start(found, jobs):

@@ -14,7 +14,7 @@ from contextlib import suppress
 sys.path.insert(0, os.path.dirname(os.path.dirname(os.path.realpath(__file__))))
 
 import sftp3  # noqa: E402 (the folder above is not searched before)
-from probing import planted  # noqa: E402
+from probing import features, planted  # noqa: E402
 
 # The longest packet that the draft (section 3) asks each server to take, and how many handles may be open of few.
 EACH_TAKES, FEW = 34_000, 20
@@ -192,6 +192,14 @@ class one_owner(Usual):
         if asked.name in ("SETSTAT", "FSETSTAT") and asked.fields[1].get("owner", (0, 0)) != (0, 0):
             return sftp3.status(asked.number, sftp3.BAD_MESSAGE)
         return super().answer(asked, packet)
+
+
+class texts_alone(Usual):
+    """Its names are UTF-8."""
+
+    def answer(self, asked, packet):
+        is_refused = "not-utf-8" in features.of_request(asked.name, asked.fields)
+        return sftp3.status(asked.number, sftp3.FAILURE) if is_refused else super().answer(asked, packet)
 
 
 class no_links(Usual):
