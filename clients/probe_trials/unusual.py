@@ -3,7 +3,8 @@ import os
 import re
 
 from probe_trials.runs import probe, side_by_side
-from probing.program import program
+from probing.program import TOP, program
+from trials.other_servers import SFTP_SERVER, has_openssh
 from trials.probes import SERVE, faulty_before, misbehaving, serve, stand_in
 
 # Servers of probing/unusual.py that are accepted as they are.
@@ -80,6 +81,17 @@ def try_one_at_a_time(steps, folder):
                 "probe: the second of two servers: no VERSION came: " in said, said)
 
 
+def try_umask(steps, folder):
+    """Where files are their group's, too, the option is named."""
+    if not has_openssh(steps, "a umask of a group", needs_root=True):
+        return
+    server = [os.path.join(TOP, "clients", "servers", "any"), "{tree}", SFTP_SERVER, "-u", "007"]
+    status, said, _ = probe("--seeds", "1", "--profile", "posix", "--skip", "crowds,transfers", "--budget", "0",
+                            "--keep", os.path.join(folder, "umask"), "--", *server)
+    steps.check("a server with the umask 007: a difference, and --umask 007 accepts it", status == 1 and
+                "   accepted with: --umask 007\n" in said, said)
+
+
 def try_not_told(steps, folder):
     """What has another reason is not excused, nor advised."""
     words = ["--seeds", "1-4", "--budget", "0", "--keep", os.path.join(folder, "not-told")]
@@ -90,4 +102,4 @@ def try_not_told(steps, folder):
     steps.check("sftpv3 serve with little room is accepted", status == 0, said)
 
 
-TRIALS = (try_accepted, try_kept, try_told, try_one_at_a_time, try_not_told)
+TRIALS = (try_accepted, try_kept, try_told, try_one_at_a_time, try_umask, try_not_told)

@@ -20,7 +20,7 @@ OF_USERS = {"denied", "full"}
 MANY_ALIKE = 3
 
 # The values that are tried, of options that say how new files and directories are made.
-MADE = [("--umask", value) for value in ("000", "002", "022", "027", "077")] + \
+MADE = [("--umask", value) for value in ("000", "002", "007", "022", "027", "077")] + \
        [("--new-owner", value) for value in ("given", "group", "posix")]
 
 
