@@ -116,6 +116,10 @@ KINDS = ((stat.S_ISFIFO, "a FIFO"), (stat.S_ISDIR, "a folder"), (stat.S_ISSOCK, 
          (stat.S_ISBLK, "a device"))
 
 
+# What the folder of a difference has that is read by its name.
+KEPT = ("session.transcript", "start.tree")
+
+
 class Bad(Exception):
     """The file is no transcript. `name` is that of another file, if it is that which is wrong."""
 
@@ -129,7 +133,8 @@ def check(name):
     found = os.stat(name)
     for is_kind, kind in KINDS:
         if is_kind(found.st_mode):
-            raise Bad(f"it is {kind}, and no regular file", name)
+            kept = [it for it in KEPT if os.path.isfile(os.path.join(name, it))]
+            raise Bad(f"it is {kind}, and no regular file" + f", and has {' and '.join(kept)}" * bool(kept), name)
     return found.st_size
 
 

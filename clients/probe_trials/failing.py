@@ -8,7 +8,7 @@ import tempfile
 from unittest import mock
 
 from probe_trials.runs import PROBE, probe
-from probing import servers
+from probing import program, servers
 from trials.probes import SERVE, misbehaving
 
 # A user with no rights.
@@ -44,6 +44,19 @@ def try_limits(steps, folder):
     steps.check("few processes for its user: status 3, and why", done.returncode == 3 and "Traceback" not in said and
                 "expected" not in said and said.count("\n") == 1, (done.returncode, said))
     shutil.rmtree(room)
+
+
+def try_not_removed(steps, folder):
+    """What a server made in {folder} may belong to another user, as by sudo or a container."""
+    refused = PermissionError(errno.EACCES, os.strerror(errno.EACCES), "x")
+    with mock.patch.object(servers.removing, "remove_directory", side_effect=refused):
+        try:
+            with servers.Server(["server", "{folder}"]).with_folder(folder) as server:
+                made = server.folder
+        except PermissionError as error:
+            said = program.told(error)
+            steps.check("{folder} that cannot be removed: it is named, and what to do", said.startswith(
+                f"{made}: Permission denied: ") and "--reset" in said and "\n" not in said, said)
 
 
 def try_not_written(steps, folder):
@@ -113,4 +126,4 @@ def try_own_mistake(steps, folder):
                     ("code 0 (OK)" in done.stdout) == found, done)
 
 
-TRIALS = (try_limits, try_not_written, try_closed_output, try_full_streams, try_own_mistake)
+TRIALS = (try_limits, try_not_removed, try_not_written, try_closed_output, try_full_streams, try_own_mistake)

@@ -87,6 +87,14 @@ class Hurried:
         return found.differences[0].session, found
 
 
+def try_room_again(steps, _):
+    """Parts of a WRITE that is asked once the server was started again are asked then, too."""
+    late = plans.asked_again(Step(7, "WRITE", [b"h", 0, bytes(50)]))
+    found = [(step.number, step.again, step.fields[1]) for step in plans.Room(write=20).cut([late])]
+    steps.check("parts of a WRITE are asked when it was to be", found == [(7, True, 0), (8, True, 20), (9, True, 40)],
+                found)
+
+
 def try_cut_short(steps, _):
     """A session whose audits are cut short by the end of the time does not tell whether a difference comes again."""
     found = [verdicts.Difference(1, 1, name, verdicts.Verdict(False, "", 3, "Wire Type", {}), [], sessions.Session(1),
@@ -120,4 +128,5 @@ def try_bytes(steps, _):
                 time.monotonic() - start)
 
 
-TRIALS = (try_progress, try_jobs, try_much, try_explained, try_room, try_cut_short, try_tally, try_bytes)
+TRIALS = (try_progress, try_jobs, try_much, try_explained, try_room, try_room_again, try_cut_short, try_tally,
+          try_bytes)

@@ -41,6 +41,14 @@ def try_start(steps, folder):
                             "--", *misbehaving("fifth-refusal"))
     steps.check("a reset that fails: status 3, and what was found is reported", status == 3 and "--reset ended with "
                 "status 5: no more" in said and "code 0 (OK)" in said and "not played" in said, (status, said))
+    steps.check("what was found then is not said to be whole for lack of time", "no time was left" not in said and
+                "not shrunk: the run failed" in said, said)
+    with open(reset, "w", encoding="ascii") as file:
+        file.write(f"echo >>{folder}/more; [ $(wc -l <{folder}/more) -lt 9 ] || {{ echo no more >&2; exit 5; }}\n")
+    status, said, _ = probe(*words, "--keep", os.path.join(folder, "later"), "--reset", f"sh {reset}", "--",
+                            *misbehaving("fifth-refusal"))
+    steps.check("a reset that fails while sessions are shrunk: the same", status == 3 and "status 5: no more" in said
+                and "intermittent" not in said and "code 0 (OK)" in said, (status, said))
 
 
 def try_reset(steps, folder):

@@ -12,6 +12,7 @@ from trials.probes import faulty_before, misbehaving
 # Arguments with which there is nothing to play, or not what is asked for.
 BAD_USAGE = [["--seeds", "5-1"], ["--seeds", "x"], ["--seeds", ""], ["--in-flight", "0"], ["--in-flight", "5000"],
              ["--timeout", "0"], ["--jobs", "0"], ["--jobs", "99999"], ["--patience", "-1"], ["--tree", "/nowhere"],
+             ["--limits", ""], ["--limits", "packet=33999"], ["--limits", "packets=34000"], ["--limits", "handles=0"],
              ["--session", "/nowhere"], ["--report", "/nowhere/at/all"], ["--requests", "0"],
              ["--tree", PROBE], ["--session", PROBE]]
 

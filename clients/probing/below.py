@@ -278,8 +278,9 @@ def private(path):
     if made.code != 0:
         return f"{bounds.shown(path)} cannot be made: {made.why()}"
     (found,) = yield [ask("LSTAT", path)]
-    if is_open(found):
-        # some servers have no regard for the permissions of MKDIR
+    if (found.attributes or {}).get("permissions", 0) & 0o7777 != PRIVATE["permissions"]:
+        # some servers have no regard for the permissions of MKDIR; and by a set-gid bit, which it has from the
+        # directory above, what is made in it would have another group than the server's user
         yield [ask("SETSTAT", path, PRIVATE)]
         (found,) = yield [ask("LSTAT", path)]
     return OPEN.format(bounds.shown(path)) if is_open(found) else None

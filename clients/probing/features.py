@@ -1,11 +1,14 @@
 """What `--skip` may name, besides requests and causes: features that a request has by itself, and others that it has
 by what was planned before it."""
+from contextlib import suppress
+
 import sftp3
 from probing.model import DIRECTORY, EFFECTS, FAR, FILE, LINK
 
 # Features, and the words of the help.
 FEATURES = {
     "nul": "paths with a byte of 0",
+    "not-utf-8": "paths and targets of links that are no UTF-8",
     "slash": "paths that end in a slash, or in a dot",
     "long": "paths of 1,024 bytes or more",
     "huge": "offsets and sizes of 2^31 or more",
@@ -60,6 +63,7 @@ def of_request(name, fields):
     numbers = [value for value in fields if isinstance(value, int)] + [given.get("size", 0)]
     found = {
         "nul": any(b"\0" in path for path in paths),
+        "not-utf-8": not sftp3.REQUESTS[name][1].startswith("handle") and not all(map(is_text, paths)),
         "long": any(len(path) >= 1024 for path in paths),
         "slash": any(path.endswith((b"/", b"/.", b"/..")) and path.strip(b"/") for path in paths),
         "owner": "owner" in given,
@@ -75,6 +79,14 @@ def of_request(name, fields):
         "append": name == "OPEN" and bool(fields[1] & sftp3.APPEND),
     }
     return {feature for feature, has in found.items() if has}
+
+
+def is_text(path):
+    """Whether these bytes are UTF-8."""
+    with suppress(UnicodeDecodeError):
+        path.decode()
+        return True
+    return False
 
 
 def longest_name(path):

@@ -26,9 +26,9 @@ FIELDS = [("size", "size"), ("uid", "user"), ("gid", "group"), ("permissions", "
 LACKED = {"size": ["size"], "owner": ["uid", "gid"]}
 
 
-# Why a session is kept as it came: it did not show the difference again, there was no time to shrink it, or the reply
-# came after all when the shrunk session was played with the whole timeout.
-GONE, NO_TIME, LATE = "intermittent", "no time", "late"
+# Why a session is kept as it came: it did not show the difference again, there was no time to shrink it, the reply came
+# after all when the shrunk session was played with the whole timeout, or the run failed before.
+GONE, NO_TIME, LATE, FAILED = "intermittent", "no time", "late", "failed"
 
 
 class Group:
@@ -60,6 +60,11 @@ class Group:
         # what reports.keep gives: the folder, and the lines of the session
         self.kept = None
 
+    def fail(self):
+        """Says that it was not shrunk since the run failed."""
+        if self.shortest is None and self.whole == NO_TIME:
+            self.whole = FAILED
+
     def put_behind(self, others):
         """Takes in the groups that came before one of the differences."""
         self.behind = set(others) if self.behind is None else self.behind & others
@@ -73,7 +78,8 @@ class Group:
             return said if self.steady() or not self.tries else f"{said}; intermittent, {often}"
         if self.whole == GONE:
             return f"not shrunk: intermittent, {often} with the same plan"
-        return {NO_TIME: "not shrunk: no time was left", LATE: "not shrunk: the reply came late"}[self.whole]
+        return {NO_TIME: "not shrunk: no time was left", LATE: "not shrunk: the reply came late",
+                FAILED: "not shrunk: the run failed before"}[self.whole]
 
     def steady(self):
         """Whether it came each time the plan was played again."""

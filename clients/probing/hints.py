@@ -7,7 +7,7 @@ So a wrong order of SYMLINK's paths is not named where the session has others th
 import os
 
 import sftp3
-from probing import groups, lacking, verdicts
+from probing import features, groups, lacking, plans, restarts, set_times, verdicts
 from sftp3 import trees
 
 # The most seconds that all of this takes.
@@ -20,7 +20,7 @@ OF_USERS = {"denied", "full"}
 MANY_ALIKE = 3
 
 # The values that are tried, of options that say how new files and directories are made.
-MADE = [("--umask", value) for value in ("000", "002", "022", "027", "077")] + \
+MADE = [("--umask", value) for value in ("000", "002", "007", "022", "027", "077")] + \
        [("--new-owner", value) for value in ("given", "group", "posix")]
 
 
@@ -95,7 +95,8 @@ def departures(group):
 
 def advice(found, auditor):
     """What to say of the groups that were found, if other options may suit the server."""
-    said = [of_profile(found, auditor), of_lacking(found)]
+    said = [of_profile(found, auditor), of_lacking(found), of_packets(found), of_handles(found), of_access(found),
+            of_refused(found)]
     return [line for line in said if line]
 
 
@@ -127,6 +128,96 @@ def of_lacking(found):
             return (f"{count} of {len(found)} kinds show nothing but other {name}: if your server has none of its own, "
                     f"play again with --without {name}")
     return None
+
+
+def longest_done(records):
+    """How many bytes the longest request has that a server says it did."""
+    asked, longest = {}, 0
+    for side, packet in records[2:]:
+        if side == sftp3.CLIENT:
+            asked[packet[5:9]] = len(packet)
+        elif packet[4] == sftp3.STATUS and packet[9:13] == bytes(4):
+            longest = max(longest, asked.get(packet[5:9], 0))
+    return longest
+
+
+def of_packets(found):
+    """What to say where WRITEs fail that are longer than each server has to take; None if the server took one as
+    long."""
+    taken = []
+    for one in (group.first for group in found if group.request == "WRITE"):
+        most = max(plans.EACH_TAKES, longest_done(one.session.records))
+        taken += [most] if len(one.session.records[one.request][1]) > most else []
+    if not taken:
+        return None
+    return (f"{of_kinds(len(taken), found)} at packets of more than {min(taken):,} bytes, and the draft (section 3) "
+            f"asks a server to take {plans.EACH_TAKES:,}: if yours takes no longer ones, play again with "
+            f"--limits packet={min(taken)}")
+
+
+# From how many open handles on it is said that a server may open no more.
+MANY_OPEN = 10
+
+
+def of_handles(found):
+    """What to say where a server opens no further handle while many are open; None if there is nothing."""
+    opened = []
+    for group in found:
+        is_refused = group.request in ("OPEN", "OPENDIR") and group.expected.startswith("HANDLE") and \
+            group.found.startswith("STATUS")
+        opened += [len(restarts.left_open(group.first.session.records[:group.first.reply]))] if is_refused else []
+    if not opened or min(opened) < MANY_OPEN:
+        return None
+    return (f"{of_kinds(len(opened), found)} where {min(opened)} handles or more are open: if your server opens no "
+            f"more at a time, play again with --limits handles={min(opened)}")
+
+
+def of_access(found):
+    """What to say where a server shows other times of access than were set; None if it shows none."""
+    count = sum(group.found.startswith(set_times.ACCESS) for group in found)
+    return f"{of_kinds(count, found)} of the time of access alone: if your server or its file system keeps none, or " \
+        "only the day, as FAT does, play again with --without access-times" if count else None
+
+
+# The requests that not every server does, and the attributes that not every server sets, by which --skip names them.
+OPTIONAL, SETTABLE = {"SYMLINK", "READLINK", "HARDLINK", "POSIX-RENAME", "FSYNC"}, {"times", "owner"}
+
+
+def of_refused(found):
+    """What to say where a server refuses what some servers are meant to; None if there is nothing."""
+    words = set().union(*map(refused, found))
+    names = ",".join(sorted(words))
+    return f"the server refuses what has {names}: if it is meant to, play again with --skip {names}" if words else None
+
+
+def refused(group):
+    """The words of --skip for what is refused: what the server says that it has not (code 8), to set times or an owner,
+    and names that are no UTF-8."""
+    is_done = group.expected.startswith("STATUS with code 0 ") or not group.expected.startswith("STATUS")
+    code = group.found.removeprefix("STATUS with code ").split(" ")[0]
+    if code in (group.found.split(" ")[0], "0") or group.expected.startswith("STATUS with code 8 "):
+        return set()
+    asked = sftp3.decode(group.first.session.records[group.first.request][1])
+    found = {asked.name} & OPTIONAL if code == "8" else set()
+    if is_done and asked.name in ("SETSTAT", "FSETSTAT") and len(asked.fields[1]) == 1:
+        found |= SETTABLE & asked.fields[1].keys()
+    return found | {"not-utf-8"} & features.of_request(asked.name, asked.fields) if is_done else found
+
+
+def of_start(found, jobs):
+    """What to say where a server did not start beside others; None if all started, or none ran beside."""
+    return beside(jobs) if any(group.first.verdict.kind == "NotStarted" for group in found) else None
+
+
+def beside(jobs):
+    """What to say of a server that did not start, with so many side by side; None if it was alone."""
+    return (f"up to {jobs} servers ran side by side: if only one of yours can, as with a lock or a port of its own, "
+            "play again with --jobs 1") if jobs > 1 else None
+
+
+def of_kinds(count, found):
+    """How many of these groups are meant."""
+    return f"{count} of {len(found)} kinds {'is' if count == 1 else 'are'}" if len(found) > 1 else "the difference is"
 
 
 def put_hints(found, auditor, tree, folder, stop):

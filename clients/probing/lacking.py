@@ -1,14 +1,17 @@
 """What a server does not have, as `--without` names it: owners, or permissions. No request sets it, the tree has
 the same of everything, and each reply is judged as if it showed that. So sizes, kinds, names and bytes are judged of
 servers that show no owners, the same one always, or permissions that nobody can change: those of stores of
-objects, of what is in memory only, of exFAT. What is kept of a session is what was judged."""
+objects, of what is in memory only, of exFAT. What is kept of a session is what was judged.
+
+Times of access are set together with those of modification, and so they are set, but not compared: file systems keep
+the day alone, as FAT, or none."""
 import copy
 from contextlib import suppress
 
 import sftp3
 from sftp3 import trees
 
-OWNERS, PERMISSIONS = NAMES = "owners", "permissions"
+OWNERS, PERMISSIONS, ACCESS = NAMES = "owners", "permissions", "access-times"
 
 # The attributes of requests that are left out.
 FIELDS = {OWNERS: "owner", PERMISSIONS: "permissions"}
@@ -34,6 +37,9 @@ class Lacking:
     def has_permissions(self):
         return PERMISSIONS not in self.given
 
+    def has_access_times(self):
+        return ACCESS not in self.given
+
     def tree(self, tree):
         """The tree as this server has it."""
         found = tree.with_entries([self.entry(entry) for entry in tree.entries])
@@ -54,7 +60,7 @@ class Lacking:
 
     def step(self, step):
         """A step that does not set it, or None if nothing is left to be set."""
-        names = {FIELDS[name] for name in self.given}
+        names = {FIELDS.get(name) for name in self.given}
         fields = [{key: one for key, one in value.items() if key not in names} if isinstance(value, dict) else value
                   for value in step.fields]
         if fields == step.fields:

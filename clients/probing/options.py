@@ -8,7 +8,7 @@ import textwrap
 
 import sftp3
 from paging import exchanges, packets
-from probing import features, files, lacking, program, refusals, sessions, shrinking, verdicts
+from probing import features, files, lacking, plans, program, refusals, sessions, shrinking, verdicts
 from recording.parsers import Parser
 from recording.ways import Way, from_root, is_inherited, named_twice, names, text_of
 
@@ -100,6 +100,24 @@ def flying(text):
     return number
 
 
+# A limit of a server on the command line.
+LIMIT = re.compile("(packet|handles)=([1-9][0-9]{0,8})")
+
+
+def room(text):
+    """What a server has room for that says `packet=34000,handles=20`, or one of both."""
+    parts = [LIMIT.fullmatch(part) for part in text.split(",")]
+    if not all(parts):
+        raise argparse.ArgumentTypeError(f"{text!r} is no limit, such as packet=34000 or handles=20, and no list of "
+                                         "these with a comma between")
+    found = {part[1]: int(part[2]) for part in parts}
+    longest = found.get("packet", plans.EACH_TAKES)
+    if longest < plans.EACH_TAKES:
+        raise argparse.ArgumentTypeError(f"the draft (section 3) asks each server to take packets of "
+                                         f"{plans.EACH_TAKES:,} bytes")
+    return plans.Room(write="packet" in found and longest - plans.AROUND, handles=found.get("handles", 0))
+
+
 def names_among(known):
     """Reads a list of names, which have to be among these."""
     def names(text):
@@ -184,7 +202,12 @@ def add_of_plans(add):
         help="what else to plan: large, long-target, for which a server may have room, and the tree not; and "
              "two-clients, which play each session together, one request at a time")
     add("--without", metavar="NAME,...", type=names_among(lacking.NAMES), default=[],
-        help="what the server does not have: owners, permissions; none are set, and those that it shows not judged")
+        help="what the server does not have: owners, permissions, access-times; none are set, and those that it shows "
+             "not judged")
+    add("--limits", metavar="NAME=N,...", type=room, default=plans.Room(),
+        help="what the server has room for, if it does not tell that itself (limits@openssh.com): packet=N, the bytes "
+             f"of the longest packet that it takes, from {plans.EACH_TAKES} on, and handles=N, how many are open at a "
+             "time")
     add("--session", metavar="FILE", help="play the requests of this transcript, not those of seeds")
     add("--start-again", metavar="N", type=positive,
         help="start the server again on the same files before the N-th request of --session")

@@ -96,6 +96,13 @@ def asked_again(step, again=True):
     return found
 
 
+def changed(step, number, fields):
+    """The step with this id and these fields."""
+    found = copy.copy(step)
+    found.number, found.fields = number, fields
+    return found
+
+
 def started_again(steps, number):
     """These steps, with the server started again before the one with this place, from 1."""
     return [asked_again(step, place >= number) for place, step in enumerate(steps, 1)]
@@ -130,8 +137,9 @@ EXTENSION = b"limits@openssh.com"
 # The id of the question, which no plan has.
 NUMBER = 0x7FFFFFFF
 
-# What a packet has besides the bytes of a WRITE or of DATA, at most.
-AROUND = 1024
+# What a packet has besides the bytes of a WRITE or of DATA, at most; and the longest one that each server is to take
+# (draft, section 3).
+AROUND, EACH_TAKES = 1024, 34_000
 
 # What no offset reaches, and no id.
 OFFSETS = 1 << 64
@@ -139,9 +147,9 @@ IDS = 1 << 32
 
 
 class Room:
-    """The most bytes of a READ and of a WRITE, and the most handles; None where there is no limit."""
+    """The most bytes of a READ and of a WRITE, and the most handles; None where there is no limit. 0 is none."""
 
-    def __init__(self, packet, read, write, handles):
+    def __init__(self, packet=0, read=0, write=0, handles=0):
         whole = [packet - AROUND] if packet > AROUND else []
         self.read = min(whole + [read] * (read > 0), default=None)
         self.write = min(whole + [write] * (write > 0), default=None)
@@ -187,7 +195,7 @@ def last_number(steps):
 def many(step, number, of_parts):
     """Steps with these fields in place of a step: a handle, an offset, and what is read or written there. Parts behind
     the last offset that there is are left out."""
-    return [Step(step.number if part == 0 else (number + part) % IDS, step.name, fields)
+    return [changed(step, step.number if part == 0 else (number + part) % IDS, fields)
             for part, fields in enumerate(of_parts) if fields[1] < OFFSETS]
 
 

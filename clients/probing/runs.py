@@ -221,7 +221,8 @@ class Run:
         skip = features.BEYOND.difference(self.given.also).union(self.given.skip)
 
         def steps_of(seed):
-            return self.auditor.lacks.steps(self.recorded if self.given.session else self.planned(seed, skip))
+            steps = self.recorded if self.given.session else self.planned(seed, skip)
+            return self.given.limits.cut(self.auditor.lacks.steps(steps))
         self.tally.planned = len(numbers)
 
         def task_of(place, number):
@@ -245,7 +246,8 @@ class Run:
             if outcome is None:
                 continue
             if outcome.not_started and not self.tally.played:
-                raise outcome.not_started
+                why = [str(outcome.not_started), hints.beside(self.pool.jobs)]
+                raise NotStarted("\n".join(filter(None, why)))
             self.take(outcome)
             if outcome.differences and self.given.first:
                 self.playing.set("--first")
@@ -335,7 +337,8 @@ class Run:
     def advice(self, found):
         """What to do otherwise in the next run."""
         budget = None if self.until.is_set() else hints.of_budget(found, self.given.budget)
-        return [line for line in (*hints.advice(found, self.auditor), self.root.advice(), budget) if line]
+        start = hints.of_start(found, self.pool.jobs)
+        return [line for line in (*hints.advice(found, self.auditor), start, self.root.advice(), budget) if line]
 
     def run(self):
         """Gives the exit status."""
@@ -349,6 +352,8 @@ class Run:
             trouble = error
             self.progress.clear()
             self.halt.set(why_failed(error))
+            for group in self.groups.all():
+                group.fail()
             if not self.groups.by_key:
                 raise
         self.tally.stopped = self.halt.why or self.playing.why or ("--patience" if self.until.is_set() else None)

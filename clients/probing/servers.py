@@ -84,8 +84,7 @@ class Server:
         try:
             yield found
         finally:
-            with suppress(FileNotFoundError):
-                removing.remove_directory(found.folder)
+            remove(found.folder)
 
     def again(self):
         """The server, to be started on the files that it has."""
@@ -108,6 +107,21 @@ class Server:
     def named(word, tree_file, folder):
         """A word with the names in place of what stands for them."""
         return word.replace("{tree}", tree_file).replace("{folder}", folder)
+
+
+# Why the folder of a session stays where another user owns what is in it, as with sudo or a container.
+NOT_OURS = ("the server's files there are not this user's: in place of {folder}, name a folder of your own, and have "
+            "--reset empty and fill it")
+
+
+def remove(folder):
+    """Removes the folder of a session, with all that the server made there."""
+    try:
+        removing.remove_directory(folder)
+    except FileNotFoundError:
+        pass
+    except PermissionError as error:
+        raise PermissionError(error.errno, f"{error.strerror}: {NOT_OURS}", folder) from None
 
 
 # Why the system starts no process at all now, whatever it is: too many files, processes or memory are taken.

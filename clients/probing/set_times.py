@@ -91,9 +91,10 @@ def reads(request: sftp3.Request) -> bool:
 
 
 class Session:
-    """A session as far as its records are read."""
+    """A session as far as its records are read, of a server that keeps times of access or does not."""
 
-    def __init__(self):
+    def __init__(self, keeps_access=True):
+        self.keeps_access = keeps_access
         self.asked: Dict[int, Asked] = {}
         # how many changes, and how many reads, were asked for or answered; those in flight
         self.changes = self.reads = 0
@@ -183,7 +184,9 @@ class Session:
         handles = {handle for handle, one in self.opened.items() if one == path}
         if request.name == "FSETSTAT":
             handles.add(thing)
-        return Followed(*given["times"], request.name, set() if path is None else {path}, handles)
+        access, modification = given["times"]
+        return Followed(access if self.keeps_access else None, modification, request.name,
+                        set() if path is None else {path}, handles)
 
     def compare(self, asked: Asked, packet: bytes, place: int) -> Optional[Finding]:
         """What is wrong with the times that this reply shows of what is followed."""
@@ -212,10 +215,10 @@ def is_no_link(given: dict) -> bool:
     return given.get("permissions", LINK) & KIND != LINK
 
 
-def findings(records, again: Optional[int] = None) -> Iterator[Finding]:
+def findings(records, again: Optional[int] = None, keeps_access: bool = True) -> Iterator[Finding]:
     """The replies of a session with other times than were set: of each request, the first of each kind. At the place
     `again` the server was started again."""
-    session, seen = Session(), set()
+    session, seen = Session(keeps_access), set()
     for place, (side, packet) in enumerate(records):
         if place < 2:
             continue

@@ -3,6 +3,7 @@ nothing to do with it, then entries of the tree, then other requests. Each try i
 race, several are played for one try. All groups share the time that there is; what is not shrunk is kept as it came."""
 import sftp3
 from probing import groups, limits, plans
+from probing.servers import ResetFailed
 from probing.sessions import NotStarted, Stopped
 from sftp3 import trees
 
@@ -134,6 +135,8 @@ class Shrinker:
             try:
                 _, judged = self.worker.play(tree, steps, self.in_flight, self.group.first.seed, self.until,
                                              self.timeout, self.group.first.session.cut)
+            except ResetFailed:
+                raise
             except NotStarted:
                 return None
             for difference in judged.differences:

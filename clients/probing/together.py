@@ -6,7 +6,6 @@ servers may give the same bytes. What has no handle goes by the first if its id 
 of the sessions the ids are those of the plan. In the others they are dealt: in one third, what one client has looked
 at, the other one changes in most cases, and the first looks again; in another, one client makes all changes.
 """
-import copy
 import posixpath
 
 import sftp3
@@ -66,9 +65,7 @@ def clean(path):
 
 def renumbered(step, number, numbers):
     """The step with this id, and with the new ids of the steps whose handles it has."""
-    found = copy.copy(step)
-    found.number, found.fields = number, [plans.renumbered(field, numbers) for field in step.fields]
-    return found
+    return plans.changed(step, number, [plans.renumbered(field, numbers) for field in step.fields])
 
 
 class Other(sessions.Player):
@@ -98,7 +95,10 @@ class Both:
         self.steps, self.first.waiting = list(self.first.waiting), type(self.first.waiting)()
         other = self.start_other()
         self.players.append(other)
-        other.opening()
+        try:
+            other.opening()
+        except sessions.NotStarted as error:
+            raise sessions.NotStarted(f"the second of two servers: {error}") from None
         other.running.started, other.session = self.first.running.started, self.session
         other.most = other.left = self.first.most
         while self.steps and not self.session.end:

@@ -231,15 +231,15 @@ def judge(auditor, tree_file, session, seed=0, stop=None):
             gone = ownerless(records, gone, judged)
         places = [] if gone is None else [place for at, place in enumerate(places) if at not in gone]
     judged.unjudged += sum(session.records[place][0] == b"C" for place in places if place > judged.place())
-    judged.differences += of_times(session, seed)
+    judged.differences += of_times(session, seed, auditor.lacks.has_access_times())
     if session.crashed():
         judged.differences.append(of_crash(session, seed))
     return judged
 
 
-def of_times(session, seed):
+def of_times(session, seed, keeps_access):
     """The differences of replies that show other times than the session has set, which the audit leaves free."""
-    for one in set_times.findings(session.records, session.again):
+    for one in set_times.findings(session.records, session.again, keeps_access):
         verdict = Verdict(False, f"{one.asked.name}: {one.found}", one.reply + 1, "Times",
                           {"expected": one.expected, "found": one.found})
         yield Difference(seed, one.asked.number, one.asked.name, verdict, session.records, session,

@@ -186,6 +186,20 @@ def try_umask(steps, folder):
                 "no tree is what the session saw" in said and "--umask 027" in said, said[-2000:])
 
 
+def try_group(steps, folder):
+    """A folder of a group, by its set-gid bit: what is made there belongs to the group, and what is made in a directory
+    that lost the bit does not."""
+    if not has_openssh(steps, "a folder of a group", needs_root=True):
+        return
+    live = os.path.join(folder, "group")
+    os.mkdir(live)
+    os.chown(live, -1, 65534)
+    os.chmod(live, 0o2775)
+    words = ["--look-first", live, "--skip", "crowds,nul,moved-listing,size-and-more", *POSIX]
+    status, said = probe(folder, words, [SFTP_SERVER])
+    steps.check("a folder of a group: accepted", status == 0 and not os.listdir(live), said[-2000:])
+
+
 def try_slow(steps, folder):
     """Where the time of a session is over, what it made is removed all the same, however long that takes."""
     if not has_openssh(steps):
@@ -232,4 +246,4 @@ def try_usage(steps, folder):
 
 
 TRIALS = (try_paths, try_clearing, try_signals,
-          *needs_infer(try_serve, try_openssh, try_umask, try_slow, try_locked, try_usage))
+          *needs_infer(try_serve, try_openssh, try_umask, try_group, try_slow, try_locked, try_usage))
