@@ -8,7 +8,9 @@ planner     the plan of a session: draws scenes, each as often as it says, spell
 features    what `--skip` may name in a plan
 scenes      small scenes that make sense; refusals: requests that some cause refuses
 transfers   large scenes with much data, or with many names or handles; meetings: in which requests meet on one thing;
-            pairs: of requests that depend on the one just before; renewals: that look again at what changed
+            pairs: of requests that depend on the one just before; renewals: that look again at what changed;
+            remains: at what is left; crossings: of things of another kind than expected; dating: of times; takeovers:
+            of what takes a place; holdings: of what a file, a directory or a link keeps
 lasting     what is looked at once the server was started again on the files of a session
 pieces      which packets go in pieces, and when the second piece goes
 servers     starts and ends the server, with packets to and from it, and ends what it leaves running
@@ -28,7 +30,8 @@ reports     what is printed, kept and reported, also as JUnit; a difference as p
 planted     servers with bugs, for clients/test-probe
 faults      servers with one fault each, for clients/test-probe-faults: faulty_writes, faulty_reads, faulty_names,
             faulty_replies, faulty_open, faulty_meetings, faulty_order, faulty_kept, faulty_stores, faulty_handles,
-            faulty_served and faulty_times have them, faulty what they are made of
+            faulty_served, faulty_times, faulty_places, faulty_contents, faulty_takeovers and faulty_holdings have
+            them, faulty what they are made of
 faulty_lasting  servers whose fault only the next session shows, for clients/test-lasting
 faulty_together  servers whose fault only two clients at once show, for clients/test-together
 misbehaving servers that end, hang and are late, for clients/test-probe-runs

@@ -12,7 +12,8 @@ def times(p):
 
 
 def dated_file(p):
-    """The times of a file stay while it is looked at, gets other permissions, is read, and gets another name."""
+    """The times of a file stay while it is looked at, gets other permissions, is read, and gets another name; and they
+    are set together with permissions that let nobody write."""
     path, new, content = p.blank(b"dated"), p.blank(b"dated.new"), Content(p.random, 300)
     yield from upload(p, path, content)
     yield p.ask("SETSTAT", path, times(p))
@@ -25,13 +26,13 @@ def dated_file(p):
     name = p.random.choice(["RENAME", "POSIX-RENAME"])
     yield p.ask(name, path, new)
     yield p.ask("STAT", new)
-    yield p.ask("SETSTAT", new, {"permissions": 0o600, **times(p)})
+    yield p.ask("SETSTAT", new, {"permissions": 0o444, **times(p)})
     yield p.ask("LSTAT", new)
 
 
 def dated_upload(p):
     """Times are set through a handle behind the last WRITE, and stay when it is closed; then through one that is open
-    to read and write."""
+    to read and write, by which the file also gets permissions."""
     path, content = p.blank(b"dated-put"), Content(p.random, 5000)
     step = p.ask("OPEN", path, WRITE | CREAT | TRUNC, {})
     yield step
@@ -46,6 +47,8 @@ def dated_upload(p):
     yield p.ask("FSETSTAT", step.opened(), times(p))
     yield p.ask("FSTAT", step.opened())
     yield p.ask("STAT", path)
+    yield p.ask("FSETSTAT", step.opened(), {"permissions": 0o604})
+    yield p.ask("FSTAT", step.opened())
     yield p.ask("READ", step.opened(), 0, content.size)
     yield p.ask("FSTAT", step.opened())
     yield p.ask("CLOSE", step.opened())
@@ -53,12 +56,14 @@ def dated_upload(p):
 
 
 def dated_folder(p):
-    """Times of a directory, and of a file in it that a listing shows, also where they are set together with a size."""
-    folder, content = p.blank(b"dated-in"), Content(p.random, 90)
+    """Times of a directory, which gets another name, and of a file in it that a listing shows, also where they are set
+    together with a size."""
+    old, folder, content = p.blank(b"dated-out"), p.blank(b"dated-in"), Content(p.random, 90)
     path = folder + b"/file"
-    yield p.ask("MKDIR", folder, {})
-    yield from upload(p, path, content)
-    yield p.ask("SETSTAT", folder, times(p))
+    yield p.ask("MKDIR", old, {})
+    yield from upload(p, old + b"/file", content)
+    yield p.ask("SETSTAT", old, times(p))
+    yield p.ask("RENAME", old, folder)
     yield p.ask("STAT", folder)
     yield from listing(p, folder, 1)
     yield p.ask("LSTAT", folder)
@@ -71,7 +76,8 @@ def dated_folder(p):
 
 def dated_sync(p):
     """Times that are set through a handle behind a WRITE stay when the file is synced and closed, as by `put -p -f`,
-    and when its path gets an owner; both times may be the same."""
+    when its path gets an owner, and when it replaces another one, as by rsync; both times may be the same. They are set
+    through a handle that is open to read, too."""
     path, step = p.blank(b"dated-sync"), None
     for flags in (WRITE | CREAT | TRUNC, READ | WRITE):
         step = p.ask("OPEN", path, flags, {})
@@ -89,6 +95,16 @@ def dated_sync(p):
     yield p.ask("STAT", path)
     yield p.ask("SETSTAT", path, {"owner": (0, 0)})
     yield p.ask("STAT", path)
+    other = p.blank(b"dated-sync.old")
+    for name, flags in ((other, WRITE | CREAT), (path, READ)):
+        step = p.ask("OPEN", name, flags, {})
+        yield step
+        if name == path:
+            yield p.ask("FSETSTAT", step.opened(), times(p))
+            yield p.ask("FSTAT", step.opened())
+        yield p.ask("CLOSE", step.opened())
+    yield p.ask("POSIX-RENAME", path, other)
+    yield p.ask("STAT", other)
 
 
 def dated_whole(p):

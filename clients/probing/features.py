@@ -21,6 +21,7 @@ FEATURES = {
     "times": "attributes with times of access and modification",
     "new-owner": "OPEN and MKDIR with a user and a group",
     "new-permissions": "OPEN and MKDIR with permissions",
+    "extended-pairs": "attributes with extended pairs",
     "size-and-more": "SETSTAT and FSETSTAT of a size together with other attributes",
     "append": "OPEN with APPEND",
     "append-read": "READ through a handle that is open with APPEND",
@@ -75,6 +76,7 @@ def of_request(name, fields):
         "times": "times" in given,
         "new-owner": name in ("OPEN", "MKDIR") and "owner" in given,
         "new-permissions": name in ("OPEN", "MKDIR") and "permissions" in given,
+        "extended-pairs": "extended" in given,
         "size-and-more": "size" in given and len(given) > 1,
         "append": name == "OPEN" and bool(fields[1] & sftp3.APPEND),
     }

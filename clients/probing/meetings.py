@@ -151,7 +151,7 @@ def giving_far(p):
     yield p.ask("LSTAT", folder)
     step = p.ask("OPEN", path, READ | WRITE, {})
     yield step
-    yield p.ask("FSETSTAT", step.opened(), {"owner": (1_000_001, 65_536)})
+    yield p.ask("FSETSTAT", step.opened(), {"owner": (2 ** 31 + 7, 65_536)})
     yield p.ask("FSTAT", step.opened())
     yield p.ask("CLOSE", step.opened())
 

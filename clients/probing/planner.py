@@ -13,7 +13,8 @@ import itertools
 import random
 
 import sftp3
-from probing import crossings, dating, features, meetings, pairs, refusals, remains, renewals, scenes, transfers
+from probing import (
+    crossings, dating, features, holdings, meetings, pairs, refusals, remains, renewals, scenes, takeovers, transfers)
 from probing.transfers import listing
 from probing.model import DIRECTORY, FILE, LINK, Model, apply
 from probing.plans import Handle, Step
@@ -293,7 +294,7 @@ def ids_of(seed):
 
 # The scenes that come behind all others, each row by a planner of its own, whose random numbers its word is for.
 BEHIND = [("further", crossings.PERIODS), ("dated", dating.PERIODS), ("remaining", remains.PERIODS),
-          ("dated again", dating.MORE)]
+          ("dated again", dating.MORE), ("taking", takeovers.PERIODS), ("holding", holdings.PERIODS)]
 
 
 def plan(seed, tree, count, skip=()):
@@ -308,6 +309,7 @@ def plan(seed, tree, count, skip=()):
     steps += between
     for planner, (_, periods) in zip(others, BEHIND):
         steps += planner.large(of_seed(seed, periods))
+    steps += small.large(of_seed(seed, takeovers.OF_START))
     for planner in (large, small, *others):
         steps += planner.large([("read-back", all_back if planner is small else read_back)])
     return steps

@@ -226,17 +226,18 @@ def packed(data):
 
 # Files that some servers take for more than bytes, by what is in them or by their names.
 TEXTS = [
-    (b"notes.txt", b"one line\nand another\n\n\tlast, without an end"),
+    (b"notes.txt", b"one line\nand another  \n" + b"words " * 20 + b"\n\n\tlast, without an end"),
     (b"from-dos.txt", b"one line\r\nand another\r\n"),
     (b"ended.txt", b"a line\nand the sign for the end\x1aand what is behind it\n"),
     (b"marked.csv", b"\xef\xbb\xbfname,size\ncaf\xc3\xa9,3\n"),
+    (b"latin.txt", b"caf\xe9 cr\xe8me\nand na\xefve\n"),
     (b"packed.gz", packed(b"what is in the archive\n" * 3)),
 ]
 
 
 def plain_texts(p):
-    """Texts with the ends of lines of two systems, with a mark of UTF-8 and with a sign for the end, and an archive:
-    each stays as it is."""
+    """Texts with the ends of lines of two systems, blanks before one, a long line, a mark of UTF-8, a sign for the end
+    and letters of Latin-1, and an archive: each stays as it is."""
     top = p.blank(b"texts")
     yield p.ask("MKDIR", top, {})
     for name, data in TEXTS:

@@ -361,11 +361,18 @@ def crowd_of(count):
         yield from listing(p, place, count)
         for path in p.random.sample(paths, min(count // 3, 12)):
             yield from changing(p, path)
+        if count > KEYS:
+            new = p.blank(b"crowd.new")
+            yield p.ask("RENAME", place, new)
+            place = new
         yield from listing(p, place, count)
         if count == LOSING:
             yield from losing(p, place, count)
     return crowd
 
+
+# How many keys a store of objects lists at a time: a directory of more names gets another name, too.
+KEYS = 1000
 
 # How many names the directory has that loses some while it is listed: more than most servers give at a time.
 LOSING = 100
