@@ -28,10 +28,8 @@ limits      what ends a run early, what was played, and how far the probe is; pl
 runs        one run of the probe
 reports     what is printed, kept and reported, also as JUnit; a difference as pages and reports show it
 planted     servers with bugs, for clients/test-probe
-faults      servers with one fault each, for clients/test-probe-faults: faulty_writes, faulty_reads, faulty_names,
-            faulty_replies, faulty_open, faulty_meetings, faulty_order, faulty_kept, faulty_stores, faulty_handles,
-            faulty_served, faulty_times, faulty_places, faulty_contents, faulty_takeovers and faulty_holdings have
-            them, faulty what they are made of
+faults      servers with one fault each, for clients/test-probe-faults: the modules faulty_* that it names have them,
+            faulty what they are made of
 faulty_lasting  servers whose fault only the next session shows, for clients/test-lasting
 faulty_together  servers whose fault only two clients at once show, for clients/test-together
 misbehaving servers that end, hang and are late, for clients/test-probe-runs

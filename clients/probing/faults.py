@@ -22,7 +22,7 @@ MODULES = (faulty_writes, faulty_reads, faulty_names, faulty_replies, faulty_ope
 # The faults by their names, in the order of docs/PROBE.md: the classes of a module whose names are in small letters.
 FAULTS = {name.replace("_", "-"): fault
           for module in MODULES for name, fault in vars(module).items()
-          if name.islower() and getattr(fault, "__module__", "") == module.__name__ and isinstance(fault, type)}
+          if name.islower() and isinstance(fault, type) and issubclass(fault, faulty.Fault)}
 
 # What is no fault.
 SOUND = {"small-room": faulty.SmallRoom}

@@ -1,6 +1,9 @@
 """What the faults of faults.py are made of: a stand-in for the server that knows what was asked and what is open, and
 changes one thing in what passes.
 
+A fault is a sentence that says what goes wrong, and a function in the place of a method of a class below: `fault` in
+planted.py says how to write one, and the makers at the end name the methods. One that overrides more is a class.
+
 A fault of the server that no reply shows by itself, such as a lost WRITE, is made by asking the sound server for
 something else: an empty WRITE is answered with OK, and changes nothing.
 """
@@ -11,6 +14,7 @@ import struct
 
 import sftp3
 from probing import planted
+from probing.planted import fault
 
 OK_STATUS, END, ABSENT, FAILED = (code.to_bytes(4, "big") for code in (
     sftp3.OK, sftp3.EOF, sftp3.NO_SUCH_FILE, sftp3.FAILURE))
@@ -18,34 +22,36 @@ OK_STATUS, END, ABSENT, FAILED = (code.to_bytes(4, "big") for code in (
 # Requests that give something another path, that look at a path, and that set attributes.
 MOVES, LOOKS, SETS = ("RENAME", "POSIX-RENAME"), ("STAT", "LSTAT"), ("SETSTAT", "FSETSTAT")
 
+# The kinds of things, and where permissions have them.
+LINK, FILE, DIRECTORY, KIND = 0o120000, 0o100000, 0o040000, 0o170000
+
+# A path at which nothing is.
+NOWHERE = b"/absent/absent"
+
 # Where the ids of requests begin that a fault makes itself, whose replies the client does not see. No plan has these.
 OWN_IDS = 0xF0000000
 
 
-class Fault(planted.Bug):
-    """A server with one fault. A fault overrides `alter`, `ask` or `answer`, or what a class below leaves to it."""
+class Fault(planted.Bug, asked=dict, opened=dict, lengths=dict, counts=dict, unseen=set):
+    """A server with one fault. A fault overrides `alter`, `ask` or `answer`, or what a class below leaves to it.
+
+    It keeps requests by their ids, and those that opened what is open, by its handle; how far a path's file was
+    written; how many requests through what one of them opened are counted; and the ids of its own requests.
+    """
 
     # The options that `serve`, the sound server behind it, needs to show it; the departures of a profile that hide it.
     OPTIONS: tuple = ()
     HIDDEN_BY: tuple = ()
-
-    def __init__(self):
-        super().__init__()
-        # requests by their ids, and those that opened what is open, by its handle; how far a path's file was written;
-        # how many requests through what one of them opened are counted
-        self.asked, self.opened, self.lengths, self.counts = {}, {}, {}, {}
-        self.own, self.unseen = OWN_IDS, set()
+    own = OWN_IDS
 
     def alter(self, asked):
         """Changes a request, or notes something of it, before the server gets it."""
 
     def ask(self, asked):
-        """The requests that the server gets in place of this one."""
-        return [asked]
+        """The requests that the server gets in place of this one, or nothing, which leaves it as it is."""
 
-    def answer(self, _asked, reply):
-        """The replies that the client gets in place of this one."""
-        return [reply]
+    def answer(self, asked, reply):
+        """The replies that the client gets in place of this one, or nothing, which leaves it as it is."""
 
     def requests(self, packets):
         return [sftp3.encode(asked) for packet in packets for asked in self.one(packet)]
@@ -58,7 +64,7 @@ class Fault(planted.Bug):
             asked.opened = self.opened.pop(asked.handle(), None)
         own = sftp3.Request(asked.number, asked.name, list(asked.fields))
         self.alter(own)
-        found = self.ask(own)
+        found = self.ask(own) or [own]
         if asked.name == "WRITE" and asked.handle() in self.opened:
             path, end = self.path(asked), asked.fields[1] + len(asked.fields[2])
             self.lengths[path] = max(self.lengths.get(path, 0), end)
@@ -75,7 +81,7 @@ class Fault(planted.Bug):
         if reply.number in self.unseen:
             return []
         asked = self.asked[reply.number]
-        found = self.answer(asked, packet)
+        found = self.answer(asked, packet) or [packet]
         if reply.handle is not None:
             self.opened[reply.handle] = asked
         return found
@@ -90,9 +96,13 @@ class Fault(planted.Bug):
         """The request that gave the handle of a CLOSE, or None."""
         return getattr(self.asked[asked.number], "opened", None)
 
+    def opener(self, asked):
+        """The request that opened the handle of a request, or None."""
+        return self.opened.get(asked.handle())
+
     def opener_number(self, asked):
         """The number of the request that opened the handle of a request, or None."""
-        opener = self.opened.get(asked.handle())
+        opener = self.opener(asked)
         return opener and opener.number
 
     def count_through(self, asked):
@@ -103,24 +113,40 @@ class Fault(planted.Bug):
 
     def path(self, asked):
         """The path that the handle of a request was opened by."""
-        opened = self.opened.get(asked.handle())
-        return opened and opened.fields[0]
+        opener = self.opener(asked)
+        return opener and opener.fields[0]
+
+    def about(self, asked):
+        """The path of a request, or that by which its handle was opened, with one spelling; or None."""
+        path = asked.fields[0] if asked.handle() is None else self.path(asked)
+        return None if path is None else clean(path)
+
+    def length(self, asked):
+        """How far the file of a request's handle was written."""
+        return self.lengths.get(self.path(asked), 0)
 
     def flags(self, asked):
         """The flags of the OPEN that gave the handle of a request."""
-        opened = self.opened.get(asked.handle())
-        return opened.fields[1] if opened and opened.name == "OPEN" else 0
+        opener = self.opener(asked)
+        return opener.fields[1] if opener and opener.name == "OPEN" else 0
+
+    def openers(self, name="OPEN"):
+        return [opener for opener in list(self.opened.values()) if opener.name == name]
+
+    def openers_at(self, path, name="OPEN"):
+        """The requests that opened what is open by a path."""
+        return [opener for opener in self.openers(name) if clean(opener.fields[0]) == clean(path)]
+
+    def numbers_at(self, path, name="OPEN"):
+        """The numbers of these requests."""
+        return {opener.number for opener in self.openers_at(path, name)}
 
 
-class Asks(Fault):
+class Asks(Fault, waits=dict):
     """Asks what it needs to know itself, at once, and waits for the reply."""
 
     # For how many seconds.
     PATIENCE = 60
-
-    def __init__(self):
-        super().__init__()
-        self.waits = {}
 
     def requests(self, packets):
         # one after the other, so that those before have gone when a request of its own goes
@@ -144,6 +170,33 @@ class Asks(Fault):
     def attributes_now(self, name, path_or_handle):
         """The attributes of something, or None."""
         return attributes_of(self.now(name, path_or_handle))
+
+    def kind_now(self, path, name="LSTAT"):
+        """The kind of what is at a path, as permissions have it, or None if nothing is."""
+        given = self.attributes_now(name, path)
+        return given["permissions"] & KIND if given else None
+
+    def dangles(self, path):
+        """Whether a link is at a path that leads to nothing."""
+        return self.kind_now(path) == LINK and self.kind_now(path, "STAT") is None
+
+    def aim(self, path):
+        """Where a link leads by its own target, as a path, or None if no link is there."""
+        reply = self.now("READLINK", path)
+        top = posixpath.dirname(b"/" + path.lstrip(b"/"))
+        return posixpath.join(top, sftp3.names_in(reply)[0][0]) if reply[4] == sftp3.NAME else None
+
+    def names_now(self, path):
+        """The names in a directory, without dots, or None."""
+        handle = sftp3.Reply(self.now("OPENDIR", path)).handle
+        if handle is None:
+            return None
+        found, reply = [], self.now("READDIR", handle)
+        while reply[4] == sftp3.NAME:
+            found += [name for name, _, _ in sftp3.names_in(reply)]
+            reply = self.now("READDIR", handle)
+        self.now("CLOSE", handle)
+        return found
 
     def bytes_now(self, path):
         """The bytes of the file at a path, or None."""
@@ -187,6 +240,11 @@ def clean(path):
     return posixpath.normpath(b"/" + path.lstrip(b"/"))
 
 
+def top_of(path):
+    """The directory that a path is in, with one spelling."""
+    return posixpath.dirname(clean(path))
+
+
 def is_below(path, top):
     """Whether a path leads below another, both with one spelling."""
     return path.startswith(top + b"/")
@@ -202,7 +260,7 @@ def paths_of(asked):
 def aim_of(asked):
     """Where the link that a SYMLINK makes leads, with one spelling."""
     target, link = asked.fields
-    return clean(posixpath.join(posixpath.dirname(clean(link)), target))
+    return clean(posixpath.join(top_of(link), target))
 
 
 def is_path(asked, place):
@@ -215,8 +273,33 @@ def refused(asked):
     return [sftp3.Request(asked.number, "MKDIR", [b"/", {}])]
 
 
+def told_done(asked):
+    """A SETSTAT in place of a request with a path that changes nothing, and fails if nothing is there."""
+    return [sftp3.Request(asked.number, "SETSTAT", [asked.fields[0], {}])]
+
+
+def opens(asked, flags):
+    """Whether a request is an OPEN with one of these flags."""
+    return asked.name == "OPEN" and bool(asked.fields[1] & flags)
+
+
+def sets(asked, what, names=SETS):
+    """Whether a request sets this attribute."""
+    return asked.name in names and what in asked.fields[1]
+
+
+def without(given, what):
+    """Attributes without this one."""
+    return {name: value for name, value in given.items() if name != what}
+
+
 def sets_size(asked):
     return asked.name in SETS and asked.fields[1].get("size", FAR) < FAR
+
+
+def code_of(reply):
+    """The code of a STATUS, or None."""
+    return sftp3.Reply(reply).code
 
 
 def data_of(packet):
@@ -243,27 +326,60 @@ def with_names(packet, items):
     return sftp3.packet(sftp3.NAME, packet[5:9] + sftp3.names(items)) if items else status(packet, END)
 
 
+def with_other(data, place, bits=1):
+    """Bytes, with some bits of the one at this place changed, if that is there."""
+    return data[:place] + bytes([data[place] ^ bits]) + data[place + 1:] if 0 <= place < len(data) else data
+
+
+class Flags(Fault):
+    """Takes OPEN for one with other flags."""
+
+    def alter(self, asked):
+        if asked.name == "OPEN":
+            asked.fields[1] = self.flagged(asked, asked.fields[1])
+
+    def flagged(self, _asked, flags):
+        return flags
+
+
+class Settings(Fault):
+    """Takes what sets attributes for what sets others."""
+
+    # the requests that are meant, and the attribute that they have to set
+    NAMES, WHAT = SETS, ""
+
+    def alter(self, asked):
+        if asked.name in self.NAMES and (not self.WHAT or self.WHAT in asked.fields[1]):
+            asked.fields[1] = self.set_to(asked, asked.fields[1])
+
+    def set_to(self, _asked, given):
+        """The attributes that are set in place of these."""
+        return without(given, self.WHAT)
+
+
 class Writes(Fault):
     """Does other WRITEs than those that are asked for."""
 
     def ask(self, asked):
-        return self.written(asked, *asked.fields) if asked.name == "WRITE" else [asked]
+        return self.written(asked, *asked.fields) if asked.name == "WRITE" else None
 
     def written(self, asked, handle, offset, data):
-        """The requests in place of a WRITE."""
+        """The requests in place of a WRITE, or nothing, which leaves it as it is."""
         if self.loses(asked, offset, data):
-            return [self.empty(asked)]
-        return [sftp3.Request(asked.number, "WRITE", [handle, *self.changed_write(offset, data)])]
-
-    def empty(self, asked):
-        """A WRITE that changes nothing."""
-        return sftp3.Request(asked.number, "WRITE", [asked.fields[0], 0, b""])
+            return [sftp3.Request(asked.number, "WRITE", [handle, 0, b""])]
+        fields = [handle, self.written_at(offset), self.written_data(offset, data)]
+        return [sftp3.Request(asked.number, "WRITE", fields)]
 
     def loses(self, _asked, _offset, _data):
         return False
 
-    def changed_write(self, offset, data):
-        return offset, data
+    def written_at(self, offset):
+        """The offset in place of this one."""
+        return offset
+
+    def written_data(self, _offset, data):
+        """The bytes in place of these."""
+        return data
 
 
 class Reads(Fault):
@@ -271,9 +387,9 @@ class Reads(Fault):
 
     def answer(self, asked, reply):
         if asked.name != "READ":
-            return [reply]
+            return None
         if reply[4] != sftp3.DATA:
-            return [self.at_end(asked, reply)]
+            return [self.at_end(asked, reply)] if code_of(reply) == sftp3.EOF else None
         data = self.shown(asked, asked.fields[1], data_of(reply))
         return [status(reply, END) if data is None else with_data(reply, data)]
 
@@ -285,30 +401,22 @@ class Reads(Fault):
         return data
 
 
-class Makes(Fault):
+class Makes(Fault, made=set):
     """Knows the paths that the session made by one request."""
 
     # the request, and the place of the path among its fields
     MAKER, PLACE = "MKDIR", 0
-
-    def __init__(self):
-        super().__init__()
-        self.made = set()
 
     def alter(self, asked):
         if asked.name == self.MAKER:
             self.made.add(clean(asked.fields[self.PLACE]))
 
 
-class Moved(Fault):
+class Moved(Fault, moved=set):
     """Knows what was renamed while it was open, by the numbers of the requests that opened it."""
 
     # which path of a RENAME is meant
     WHICH = 0
-
-    def __init__(self):
-        super().__init__()
-        self.moved = set()
 
     def alter(self, asked):
         if asked.name in MOVES:
@@ -320,26 +428,30 @@ class Moved(Fault):
         return path == renamed
 
 
-class Listings(Fault):
-    """Gives other names in listings."""
-
-    def __init__(self):
-        super().__init__()
-        # by handle, how many names a listing has given
-        self.given = {}
+class Listings(Fault, given=dict):
+    """Gives other names in listings. By handle, it knows how many names a listing has given."""
 
     def answer(self, asked, reply):
         if reply[4] == sftp3.HANDLE:
             self.given[sftp3.Reply(reply).handle] = 0
         if asked.name != "READDIR" or reply[4] != sftp3.NAME:
-            return [reply]
+            return None
         items, before = sftp3.names_in(reply), self.given.get(asked.handle(), 0)
         self.given[asked.handle()] = before + len(items)
         return [with_names(reply, self.listed(asked, before, items))]
 
-    def listed(self, _asked, _before, items):
+    def listed(self, asked, _before, items):
         """The items in place of these, before which the listing has given so many."""
-        return items
+        changed = [(self.listed_name(name), text, self.listed_given(given)) for name, text, given in items]
+        return [item for item in changed if item[0] is not None]
+
+    def listed_name(self, name):
+        """The name in place of this one, or None, which leaves it out."""
+        return name
+
+    def listed_given(self, given):
+        """The attributes in place of these."""
+        return given
 
 
 class Attributes(Fault):
@@ -353,13 +465,21 @@ class Attributes(Fault):
         return given
 
 
-class Meets(Fault):
-    """Knows what is open by its path, and asks what it needs to know itself."""
+class Targets(Fault):
+    """Gives other targets in the replies to READLINK."""
 
-    def __init__(self):
-        super().__init__()
-        # what is to be done with the replies to its own requests, by their ids
-        self.calls = {}
+    def answer(self, asked, reply):
+        if asked.name != "READLINK" or reply[4] != sftp3.NAME:
+            return None
+        target = self.target(asked, sftp3.names_in(reply)[0][0])
+        return [with_names(reply, [(target, target, {})])]
+
+    def target(self, _asked, target):
+        return target
+
+
+class Meets(Fault, calls=dict):
+    """Asks what it needs to know itself, and keeps what is to be done with the replies, by their ids."""
 
     def of_reply(self, packet):
         call = self.calls.pop(int.from_bytes(packet[5:9], "big"), None) if packet[4] != sftp3.VERSION else None
@@ -377,19 +497,12 @@ class Meets(Fault):
         """A request of its own that looks at a path; `call` gets the attributes, or None."""
         return self.question(lambda packet: call(attributes_of(packet)), name, path)
 
-    def openers(self, name="OPEN"):
-        return [opener for opener in list(self.opened.values()) if opener.name == name]
 
-    def numbers_at(self, path, name="OPEN"):
-        """The numbers of the requests that opened what is open by a path."""
-        return {opener.number for opener in self.openers(name) if clean(opener.fields[0]) == clean(path)}
-
-
-class Refuses(Meets):
+class Refuses(Fault):
     """Refuses some requests, and does nothing then."""
 
     def ask(self, asked):
-        return refused(asked) if self.refuses(asked) else [asked]
+        return refused(asked) if self.refuses(asked) else None
 
     def refuses(self, _asked):
         return False
@@ -409,12 +522,11 @@ class SmallRoom(Fault):
                 or asked.name == "WRITE" and len(asked.fields[2]) > self.LIMITS[2] \
                 or asked.name in ("OPEN", "OPENDIR") and len(self.opened) >= self.LIMITS[3]:
             os._exit(9)
-        return [asked]
 
     def answer(self, asked, reply):
         if asked.name == "EXTENDED" and asked.fields[0] == b"limits@openssh.com":
             return [sftp3.packet(sftp3.EXTENDED_REPLY, reply[5:9] + struct.pack(">4Q", *self.LIMITS))]
-        return [reply]
+        return None
 
 
 class Statuses(Fault):
@@ -422,8 +534,8 @@ class Statuses(Fault):
 
     def answer(self, asked, reply):
         if reply[4] != sftp3.STATUS:
-            return [reply]
-        code = self.code(asked, sftp3.Reply(reply).code)
+            return None
+        code = self.code(asked, code_of(reply))
         return [reply[:9] + code.to_bytes(4, "big") + reply[13:]]
 
     def code(self, _asked, code):
@@ -433,9 +545,7 @@ class Statuses(Fault):
 class InFlight(Fault):
     """Knows how many requests are unanswered."""
 
-    def __init__(self):
-        super().__init__()
-        self.asked_so_far = self.answered = 0
+    asked_so_far = answered = 0
 
     def requests(self, packets):
         self.asked_so_far += len(packets)
@@ -443,10 +553,10 @@ class InFlight(Fault):
 
     def answer(self, asked, reply):
         self.answered += 1
-        return self.answer_in_flight(asked, reply, self.asked_so_far - self.answered + 1)
+        return self.in_flight(asked, reply, self.asked_so_far - self.answered + 1)
 
-    def answer_in_flight(self, _asked, reply, _count):
-        return [reply]
+    def in_flight(self, asked, reply, count):
+        """What `answer` gives, with so many requests unanswered."""
 
 
 class Overtaking(Fault):
@@ -463,3 +573,53 @@ class Overtaking(Fault):
 
     def overtakes(self, _first, _second):
         return False
+
+
+class Paths(Fault):
+    """Takes the paths in requests for others."""
+
+    def alter(self, asked):
+        for place in range(len(asked.fields)):
+            if is_path(asked, place):
+                asked.fields[place] = self.leads_to(asked, place, asked.fields[place])
+
+    def leads_to(self, _asked, _place, path):
+        """The path in place of this one, or in place of the target of a link."""
+        return path
+
+
+class Spelled(Paths):
+    """Takes the names in paths for others, but not those in targets."""
+
+    def leads_to(self, asked, place, path):
+        if asked.name == "SYMLINK" and place == 0:
+            return path
+        return b"/".join(it if it in (b"", b".", b"..") else self.spelled(it) for it in path.split(b"/"))
+
+    def spelled(self, name):
+        return name
+
+
+# What makes faults: each maker is named like the method that its faults override, and whose parameters they may take.
+alter = fault("alter", Fault)
+ask = fault("ask", Fault)
+answer = fault("answer", Fault)
+flagged = fault("flagged", Flags)
+set_to = fault("set_to", Settings)
+loses = fault("loses", Writes)
+written = fault("written", Writes)
+written_at = fault("written_at", Writes)
+written_data = fault("written_data", Writes)
+shown = fault("shown", Reads)
+at_end = fault("at_end", Reads)
+listed = fault("listed", Listings)
+listed_name = fault("listed_name", Listings)
+listed_given = fault("listed_given", Listings)
+seen = fault("seen", Attributes)
+target = fault("target", Targets)
+refuses = fault("refuses", Refuses)
+code = fault("code", Statuses)
+in_flight = fault("in_flight", InFlight)
+overtakes = fault("overtakes", Overtaking)
+leads_to = fault("leads_to", Paths)
+spelled = fault("spelled", Spelled)

@@ -16,6 +16,7 @@ sys.path.insert(0, os.path.dirname(os.path.dirname(os.path.realpath(__file__))))
 import sftp3  # noqa: E402 (the folder above is not searched before)
 from probing import planted  # noqa: E402
 from probing.faulty import clean  # noqa: E402
+from probing.planted import fault  # noqa: E402
 from probing.program import program  # noqa: E402
 from sftp3 import trees  # noqa: E402
 from sftp3.trees import DIRECTORY, FILE, FURTHER, LINK, Entry  # noqa: E402
@@ -24,21 +25,19 @@ from sftp3.trees import DIRECTORY, FILE, FURTHER, LINK, Entry  # noqa: E402
 BLOCK, NAMES = 4096, 1000
 
 
-class sound(planted.Bug):
+class sound(planted.Bug, asked=dict, opened=dict, renamed=list, replaced=set, sizes=dict, lengths=dict, was_open=set,
+            before=dict, after=dict):
     """Right: what a session leaves is there in the next."""
+
+    # It keeps the requests by their ids; what is open; renames that were done, and the new paths of those by
+    # posix-rename; sizes that were set; how long files were; what was open to be written when the first session ended,
+    # by its path; and the entries at the start and at the end of the session, by their paths.
 
     # the options of `serve`
     OPTIONS: tuple = ()
 
-    def __init__(self):
-        super().__init__()
-        # the requests by their ids; what is open; renames that were done, and sizes that were set; how long files were
-        self.asked, self.opened, self.renamed, self.sizes, self.lengths = {}, {}, [], {}, {}
-        self.replaced = set()
-        # whether this is the second session; what was open to be written when the first one ended, by its path
-        self.is_again, self.was_open = False, set()
-        # the entries at the start and at the end of the session, by their paths
-        self.before, self.after = {}, {}
+    # whether this is the second session
+    is_again = False
 
     def requests(self, packets):
         for packet in packets:
@@ -121,120 +120,107 @@ class sound(planted.Bug):
                     other.content = entry.path
 
 
-class sound_times(sound):
-    """Right: and so are times."""
+lose = fault("lose", sound)
 
-    OPTIONS = ("--times",)
+sound_times = sound.but("Right: and so are times.", OPTIONS=("--times",))
 
 
-class times_lost(sound_times):
+@fault("lose", sound_times)
+def times_lost(self):
     """All have the time at which the server was started."""
-
-    def lose(self):
-        for entry in self.after.values():
-            entry.times = trees.NO_TIMES
+    for entry in self.after.values():
+        entry.times = trees.NO_TIMES
 
 
-class last_block_lost(sound):
+@lose
+def last_block_lost(self):
     """A file that was written loses what is behind its last whole block of 4,096 bytes."""
-
-    def lose(self):
-        for entry in self.files():
-            if self.is_written(entry) and len(entry.content) > BLOCK:
-                entry.content = entry.content[:len(entry.content) // BLOCK * BLOCK]
+    for entry in self.files():
+        if self.is_written(entry) and len(entry.content) > BLOCK:
+            entry.content = entry.content[:len(entry.content) // BLOCK * BLOCK]
 
 
-class last_block_zero(sound):
+@lose
+def last_block_zero(self):
     """Behind the last whole block of 4,096 bytes of a file that was written are zeros."""
-
-    def lose(self):
-        for entry in self.files():
-            whole = len(entry.content) // BLOCK * BLOCK
-            if self.is_written(entry) and whole:
-                entry.content = entry.content[:whole] + bytes(len(entry.content) - whole)
+    for entry in self.files():
+        whole = len(entry.content) // BLOCK * BLOCK
+        if self.is_written(entry) and whole:
+            entry.content = entry.content[:whole] + bytes(len(entry.content) - whole)
 
 
-class unclosed_lost(sound):
+@lose
+def unclosed_lost(self):
     """A file that was open to be written when the session ended is empty."""
-
-    def lose(self):
-        for path in self.opened.values():
-            entry = self.after.get(path)
-            if entry and entry.kind == FILE and self.is_written(entry):
-                entry.content = b""
+    for path in self.opened.values():
+        entry = self.after.get(path)
+        if entry and entry.kind == FILE and self.is_written(entry):
+            entry.content = b""
 
 
-class permissions_default(sound):
+@lose
+def permissions_default(self):
     """Permissions that the session gave are those of a new file or directory."""
-
-    def lose(self):
-        for path, entry in self.after.items():
-            old = self.before.get(path)
-            if entry.kind in (FILE, DIRECTORY) and (old is None or old.permissions != entry.permissions):
-                entry.permissions = 0o644 if entry.kind == FILE else 0o755
+    for path, entry in self.after.items():
+        old = self.before.get(path)
+        if entry.kind in (FILE, DIRECTORY) and (old is None or old.permissions != entry.permissions):
+            entry.permissions = 0o644 if entry.kind == FILE else 0o755
 
 
-class owner_lost(sound):
+@lose
+def owner_lost(self):
     """What the session gave to another user and group is the server's again."""
-
-    def lose(self):
-        for entry in self.after.values():
-            entry.uid = entry.gid = 0
+    for entry in self.after.values():
+        entry.uid = entry.gid = 0
 
 
-class removed_again(sound):
+@lose
+def removed_again(self):
     """A file that was removed is there again."""
-
-    def lose(self):
-        for path, entry in self.before.items():
-            if entry.kind == FILE and self.is_free(path) and path not in {old for old, _ in self.renamed}:
-                self.after[path] = entry
+    for path, entry in self.before.items():
+        if entry.kind == FILE and self.is_free(path) and path not in {old for old, _ in self.renamed}:
+            self.after[path] = entry
 
 
-class rename_undone(sound):
+@lose
+def rename_undone(self):
     """The last thing that got another path has its old one."""
-
-    def lose(self):
-        found = [(old, new) for old, new in self.renamed
-                 if new in self.after and self.is_free(old) and not old.startswith(new + b"/")]
-        if found:
-            self.move(*reversed(found[-1]))
+    found = [(old, new) for old, new in self.renamed
+             if new in self.after and self.is_free(old) and not old.startswith(new + b"/")]
+    if found:
+        self.move(*reversed(found[-1]))
 
 
-class empty_directory_gone(sound):
+@lose
+def empty_directory_gone(self):
     """A directory without names that the session made is gone, as in a store of objects."""
-
-    def lose(self):
-        for entry in self.fresh(DIRECTORY):
-            if len(self.below(entry.path)) == 1:
-                self.drop(entry)
+    for entry in self.fresh(DIRECTORY):
+        if len(self.below(entry.path)) == 1:
+            self.drop(entry)
 
 
-class empty_file_gone(sound):
+@lose
+def empty_file_gone(self):
     """A file without bytes that the session made is gone."""
-
-    def lose(self):
-        for entry in self.fresh(FILE):
-            if not entry.content:
-                self.drop(entry)
+    for entry in self.fresh(FILE):
+        if not entry.content:
+            self.drop(entry)
 
 
-class link_copied(sound):
+@lose
+def link_copied(self):
     """A link to a file that the session made is a copy of this file."""
-
-    def lose(self):
-        for entry in self.fresh(LINK):
-            target = self.after.get(clean(posixpath.join(posixpath.dirname(entry.path), entry.content)))
-            if target and target.kind == FILE:
-                self.after[entry.path] = Entry(entry.path, FILE, target.content, permissions=0o644)
+    for entry in self.fresh(LINK):
+        target = self.after.get(clean(posixpath.join(posixpath.dirname(entry.path), entry.content)))
+        if target and target.kind == FILE:
+            self.after[entry.path] = Entry(entry.path, FILE, target.content, permissions=0o644)
 
 
-class link_absolute(sound):
+@lose
+def link_absolute(self):
     """The relative target of a link that the session made is an absolute one."""
-
-    def lose(self):
-        for entry in self.fresh(LINK):
-            entry.content = clean(posixpath.join(posixpath.dirname(entry.path), entry.content))
+    for entry in self.fresh(LINK):
+        entry.content = clean(posixpath.join(posixpath.dirname(entry.path), entry.content))
 
 
 class Names(sound):
@@ -252,88 +238,77 @@ class Names(sound):
         raise NotImplementedError
 
 
-class names_small(Names):
-    """Names that the session made have small letters in place of capitals."""
+changed_name = fault("changed_name", Names)
 
-    def changed_name(self, name):
-        return name.lower()
+names_small = changed_name("Names that the session made have small letters in place of capitals.",
+                           lambda name: name.lower())
 
 
-class names_apart(Names):
+@changed_name
+def names_apart(name):
     """Letters with accents in names that the session made are two signs each (NFD)."""
-
-    def changed_name(self, name):
-        try:
-            return unicodedata.normalize("NFD", name.decode()).encode()[:trees.LONGEST_NAME]
-        except UnicodeDecodeError:
-            return name
+    try:
+        return unicodedata.normalize("NFD", name.decode()).encode()[:trees.LONGEST_NAME]
+    except UnicodeDecodeError:
+        return name
 
 
-class names_trimmed(Names):
-    """Names that the session made lose blanks and dots at their end."""
-
-    def changed_name(self, name):
-        return name.rstrip(b" .") or name
+names_trimmed = changed_name("Names that the session made lose blanks and dots at their end.",
+                             lambda name: name.rstrip(b" .") or name)
 
 
-class cut_undone(sound):
+@lose
+def cut_undone(self):
     """A file that was cut by SETSTAT or FSETSTAT is as long as before, with zeros."""
-
-    def lose(self):
-        for path, size in self.sizes.items():
-            entry, old = self.after.get(path), self.before.get(path)
-            length = max(self.lengths.get(path, 0), len(old.content) if old and old.kind == FILE else 0)
-            if entry and entry.kind == FILE and len(entry.content) == size < length < 2 ** 22:
-                entry.content += bytes(length - size)
+    for path, size in self.sizes.items():
+        entry, old = self.after.get(path), self.before.get(path)
+        length = max(self.lengths.get(path, 0), len(old.content) if old and old.kind == FILE else 0)
+        if entry and entry.kind == FILE and len(entry.content) == size < length < 2 ** 22:
+            entry.content += bytes(length - size)
 
 
-class replaced_empty(sound):
+@lose
+def replaced_empty(self):
     """A file that got its path by posix-rename is empty, as where names are on the disk before bytes are."""
-
-    def lose(self):
-        for entry in self.files():
-            if entry.path in self.replaced:
-                entry.content = b""
+    for entry in self.files():
+        if entry.path in self.replaced:
+            entry.content = b""
 
 
-class names_parted(sound):
+@lose
+def names_parted(self):
     """The names of a file have each a file of their own, with the same bytes."""
-
-    def lose(self):
-        for path, entry in self.after.items():
-            if entry.kind == FURTHER:
-                of = self.after[entry.content]
-                self.after[path] = Entry(path, FILE, of.content, of.uid, of.gid, of.permissions)
+    for path, entry in self.after.items():
+        if entry.kind == FURTHER:
+            of = self.after[entry.content]
+            self.after[path] = Entry(path, FILE, of.content, of.uid, of.gid, of.permissions)
 
 
-class further_gone(sound):
+@lose
+def further_gone(self):
     """A further name that the session gave to a file is gone."""
-
-    def lose(self):
-        for entry in self.fresh(FURTHER):
-            del self.after[entry.path]
+    for entry in self.fresh(FURTHER):
+        del self.after[entry.path]
 
 
-class names_behind_thousand(sound):
+@lose
+def names_behind_thousand(self):
     """A directory has no more than 1,000 names."""
-
-    def lose(self):
-        counts, kept = {}, self.further() | {posixpath.dirname(path) for path in self.after}
-        for path in list(self.after):
-            place = posixpath.dirname(path)
-            counts[place] = counts.get(place, 0) + 1
-            if counts[place] > NAMES and path not in kept:
-                del self.after[path]
+    counts, kept = {}, self.further() | {posixpath.dirname(path) for path in self.after}
+    for path in list(self.after):
+        place = posixpath.dirname(path)
+        counts[place] = counts.get(place, 0) + 1
+        if counts[place] > NAMES and path not in kept:
+            del self.after[path]
 
 
-class removed_open_stays(sound):
+@lose
+def removed_open_stays(self):
     """A file that was removed while it was open, and was open when the session ended, is there by another name."""
-
-    def lose(self):
-        for path in self.opened.values():
-            new = posixpath.dirname(path or b"/").rstrip(b"/") + b"/.nfs0001"
-            if path is not None and path not in self.after and self.is_free(new):
-                self.after[new] = Entry(new, FILE, b"removed")
+    for path in self.opened.values():
+        new = posixpath.dirname(path or b"/").rstrip(b"/") + b"/.nfs0001"
+        if path is not None and path not in self.after and self.is_free(new):
+            self.after[new] = Entry(new, FILE, b"removed")
 
 
 class Locking(sound):
@@ -354,45 +329,37 @@ class Locking(sound):
         """Nothing is lost."""
 
 
-class left_open_not_written(Locking):
-    """A file that was open to be written when the session ended cannot be opened to be written."""
-
-    REFUSED = ("OPEN",)
-
-
-class left_open_not_moved(Locking):
-    """RENAME of a file that was open to be written when the session ended fails."""
-
-    REFUSED = ("RENAME",)
+left_open_not_written = Locking.but(
+    "A file that was open to be written when the session ended cannot be opened to be written.", REFUSED=("OPEN",))
+left_open_not_moved = Locking.but(
+    "RENAME of a file that was open to be written when the session ended fails.", REFUSED=("RENAME",))
 
 
-class nothing_is_made(Locking):
+@fault("refused", Locking)
+def nothing_is_made(self, packet):
     """MKDIR fails once the server was started again."""
-
-    def refused(self, packet):
-        asked = sftp3.decode(packet)
-        return sftp3.request(asked.number, "MKDIR", b"/", {}) if asked.name == "MKDIR" and self.is_again else packet
+    asked = sftp3.decode(packet)
+    return sftp3.request(asked.number, "MKDIR", b"/", {}) if asked.name == "MKDIR" and self.is_again else packet
 
 
-class all_lost(sound):
+@lose
+def all_lost(self):
     """Nothing that the session changed is kept."""
-
-    def lose(self):
-        self.after = self.before
+    self.after = self.before
 
 
 def main():
-    fault, words = planted.named(planted.classes(globals()))
+    chosen, words = planted.named(planted.classes(globals()))
     tree, folder = words
     saved = os.path.join(folder, "saved.tree")
     is_first, names = not os.path.exists(saved), os.path.join(folder, "open")
-    server = fault()
+    server = chosen()
     server.is_again = not is_first
     if not is_first:
         with open(names, "rb") as file:
             server.was_open = set(file.read().split(b"\0"))
     status = planted.passed(server, [program(), "serve", "--tree", tree if is_first else saved, "--save", saved,
-                                     "--no-sync", *fault.OPTIONS])
+                                     "--no-sync", *chosen.OPTIONS])
     if is_first:
         with open(tree, "rb") as before, open(saved, "rb") as after:
             left = server.lost(trees.get(before.read()), trees.get(after.read()))

@@ -3,19 +3,16 @@ than others: directories that are no more than names, names that are alike, copi
 import posixpath
 import unicodedata
 
-from probing.faulty import MOVES, Asks, Fault, Refuses, aim_of, clean, is_below, is_path, paths_of, refused
-from probing.faulty_names import Spelled
+from probing.faulty import (
+    MOVES, NOWHERE, Asks, Fault, aim_of, alter, clean, fault, is_below, leads_to, paths_of, refused, refuses,
+    spelled, top_of)
 from sftp3 import CREAT, READ
 
 
-class Made(Fault):
+class Made(Fault, made=dict):
     """Knows the paths of what the session made, each with the request that made it."""
 
     MAKING = ("OPEN", "MKDIR", "SYMLINK", "HARDLINK")
-
-    def __init__(self):
-        super().__init__()
-        self.made = {}
 
     def ask(self, asked):
         found = self.of_made(asked)
@@ -30,230 +27,161 @@ class Made(Fault):
             self.made[new + path[len(old):]] = self.made.pop(path)
 
     def of_made(self, asked):
-        return [asked]
+        """The requests in place of one, before it is done, or nothing, which leaves it as it is."""
 
     def directories(self):
         return [path for path, name in self.made.items() if name == "MKDIR"]
 
+    def directories_below(self, top):
+        return [path for path in self.directories() if is_below(path, top)]
 
-class renamed_alike_too(Made):
+
+of_made = fault("of_made", Made)
+
+
+@of_made
+def renamed_alike_too(self, asked):
     """RENAME of a directory also gives the names beside it that begin with its name the new beginning."""
-
-    def of_made(self, asked):
-        if asked.name != "RENAME" or clean(asked.fields[0]) not in self.directories():
-            return [asked]
+    if asked.name == "RENAME" and clean(asked.fields[0]) in self.directories():
         old, new = paths_of(asked)
         alike = [path for path in self.made if path.startswith(old) and path != old and not is_below(path, old)
                  and posixpath.dirname(path) == posixpath.dirname(old)]
         return [asked] + [self.another("RENAME", path, new + path[len(old):]) for path in alike]
 
 
-class empty_directory_is_not_moved(Made):
+@of_made
+def empty_directory_is_not_moved(self, asked):
     """RENAME of a directory loses the empty directories in it."""
-
-    def of_made(self, asked):
-        if asked.name not in MOVES:
-            return [asked]
+    if asked.name in MOVES:
         old, new = paths_of(asked)
-        inside = sorted((path for path in self.directories() if is_below(path, old)), key=len, reverse=True)
+        inside = sorted(self.directories_below(old), key=len, reverse=True)
         return [asked] + [self.another("RMDIR", new + path[len(old):]) for path in inside]
 
 
-class inside_is_reset(Made):
+@of_made
+def inside_is_reset(self, asked):
     """RENAME of a directory gives the directories in it the permissions 0755."""
-
-    def of_made(self, asked):
-        if asked.name not in MOVES:
-            return [asked]
+    if asked.name in MOVES:
         old, new = paths_of(asked)
-        inside = [path for path in self.directories() if is_below(path, old)]
-        return [asked] + [self.another("SETSTAT", new + path[len(old):], {"permissions": 0o755}) for path in inside]
+        return [asked] + [self.another("SETSTAT", new + path[len(old):], {"permissions": 0o755})
+                          for path in self.directories_below(old)]
 
 
-class open_file_moved_apart(Asks):
+@fault("alter", Asks)
+def open_file_moved_apart(self, asked):
     """RENAME of a file that is open to be read makes a copy of it under the new name."""
-
-    def alter(self, asked):
-        reading = {clean(opener.fields[0]) for opener in list(self.opened.values())
-                   if opener.name == "OPEN" and opener.fields[1] == READ}
-        if asked.name == "RENAME" and clean(asked.fields[0]) in reading:
-            self.copy_now(clean(asked.fields[0]))
+    if asked.name == "RENAME" and any(opener.fields[1] == READ for opener in self.openers_at(asked.fields[0])):
+        self.copy_now(clean(asked.fields[0]))
 
 
-class Alike(Fault):
-    """Takes some names for the first one that it met which is alike."""
-
-    def __init__(self):
-        super().__init__()
-        self.first = {}
-
-    def alter(self, asked):
-        for place in range(len(asked.fields)):
-            if is_path(asked, place) and not (asked.name == "SYMLINK" and place == 0):
-                parts = asked.fields[place].split(b"/")
-                asked.fields[place] = b"/".join(self.first.setdefault(self.form(part), part) for part in parts)
-
-    def form(self, name):
-        """What names that are alike have in common."""
-        return name
-
-
-class forms_are_alike(Alike):
+@spelled(first=dict)
+def forms_are_alike(self, name):
     """Names that differ only in their form of Unicode are one."""
-
-    def form(self, name):
-        try:
-            return unicodedata.normalize("NFC", name.decode()).encode()
-        except UnicodeDecodeError:
-            return name
-
-
-class long_names_are_alike(Alike):
-    """Names of 255 bytes that differ only in the last two are one."""
-
-    def form(self, name):
-        return name[:253] if len(name) == 255 else name
+    try:
+        form = unicodedata.normalize("NFC", name.decode()).encode()
+    except UnicodeDecodeError:
+        form = name
+    return self.first.setdefault(form, name)
 
 
-class hash_ends_name(Spelled):
+long_names_are_alike = spelled(
+    "Names of 255 bytes that differ only in the last two are one.",
+    lambda self, name: self.first.setdefault(name[:253] if len(name) == 255 else name, name), first=dict)
+
+
+@spelled
+def hash_ends_name(name):
     """What is behind a `#` or a `?` inside a name is left out, as in a URL."""
-
-    def name(self, name):
-        cut = min([place for place in (name.find(b"#"), name.find(b"?")) if place > 0], default=len(name))
-        return name[:cut]
+    return name[:min([place for place in (name.find(b"#"), name.find(b"?")) if place > 0], default=len(name))]
 
 
-class version_ends_name(Spelled):
+@spelled
+def version_ends_name(name):
     """A semicolon with digits behind it ends a name."""
-
-    def name(self, name):
-        before, _, behind = name.rpartition(b";")
-        return before if before and behind.isdigit() else name
+    before, _, behind = name.rpartition(b";")
+    return before if before and behind.isdigit() else name
 
 
-class blanks_are_one(Spelled):
+@spelled
+def blanks_are_one(name):
     """Two blanks or more inside a name are one."""
-
-    def name(self, name):
-        while b"  " in name:
-            name = name.replace(b"  ", b" ")
-        return name
+    while b"  " in name:
+        name = name.replace(b"  ", b" ")
+    return name
 
 
-class backslash_is_slash(Spelled):
-    """A backslash inside a name is a slash."""
-
-    def name(self, name):
-        return name[:1] + name[1:-1].replace(b"\\", b"/") + name[-1:] if len(name) > 2 else name
-
-
-class two_dots_fail(Refuses):
-    """A path with a name that ends in two dots fails, if it is longer."""
-
-    def refuses(self, asked):
-        return any(len(part) > 3 and part.endswith(b"..") for path in paths_of(asked) for part in path.split(b"/"))
+backslash_is_slash = spelled(
+    "A backslash inside a name is a slash.",
+    lambda name: name[:1] + name[1:-1].replace(b"\\", b"/") + name[-1:] if len(name) > 2 else name)
+two_dots_fail = refuses(
+    "A path with a name that ends in two dots fails, if it is longer.", lambda asked:
+    any(len(part) > 3 and part.endswith(b"..") for path in paths_of(asked) for part in path.split(b"/")))
 
 
-class device_cannot_be_made(Refuses):
+@refuses
+def device_cannot_be_made(asked):
     """OPEN and MKDIR of a name that is `con`, `aux` or `nul` up to a dot inside fail."""
-
-    def refuses(self, asked):
-        name, dot, _ = posixpath.basename(paths_of(asked)[0]).partition(b".") if paths_of(asked) else (b"", b"", b"")
-        return asked.name in ("OPEN", "MKDIR") and dot and name.lower() in (b"con", b"aux", b"nul")
-
-
-class home_of_tilde(Fault):
-    """A relative path that begins with `~` begins at the home directory behind that."""
-
-    def alter(self, asked):
-        for place in range(min(2, len(asked.fields))):
-            if is_path(asked, place) and asked.name != "SYMLINK" and asked.fields[place].startswith(b"~"):
-                asked.fields[place] = b"/" + asked.fields[place][1:].lstrip(b"/")
+    if asked.name in ("OPEN", "MKDIR"):
+        name, dot, _ = posixpath.basename(paths_of(asked)[0]).partition(b".")
+        return dot and name.lower() in (b"con", b"aux", b"nul")
 
 
-class star_removes_all(Made):
+home_of_tilde = leads_to(
+    "A relative path that begins with `~` begins at the home directory behind that.", lambda asked, path:
+    b"/" + path[1:].lstrip(b"/") if path.startswith(b"~") and asked.name != "SYMLINK" else path)
+
+
+@of_made
+def star_removes_all(self, asked):
     """REMOVE of `*` removes all files beside it that the session made."""
-
-    def of_made(self, asked):
-        top, name = posixpath.split(clean(asked.fields[0])) if asked.name == "REMOVE" else (b"", b"")
-        if name != b"*":
-            return [asked]
+    top, name = posixpath.split(clean(asked.fields[0])) if asked.name == "REMOVE" else (b"", b"")
+    if name == b"*":
         return [asked] + [self.another("REMOVE", path) for path in self.made if posixpath.dirname(path) == top]
 
 
-class text_takes_link_away(Fault):
+@leads_to(links=set)
+def text_takes_link_away(self, asked, path):
     """`..` behind a link that the session made leads to the directory of the link."""
-
-    def __init__(self):
-        super().__init__()
-        self.links = set()
-
-    def alter(self, asked):
-        if asked.name == "SYMLINK":
-            self.links.add(clean(asked.fields[1]))
-        for place in range(min(2, len(asked.fields))):
-            if is_path(asked, place) and asked.name != "SYMLINK":
-                asked.fields[place] = self.without_links(asked.fields[place])
-
-    def without_links(self, path):
-        for link in self.links:
-            if clean(path.split(b"/..")[0]) == link and b"/.." in path:
-                return posixpath.dirname(link).rstrip(b"/") + path.split(b"/..", 1)[1] or b"/"
-        return path
+    if asked.name == "SYMLINK":
+        self.links.add(clean(asked.fields[1]))
+    elif b"/.." in path and clean(path.split(b"/..")[0]) in self.links:
+        return top_of(path.split(b"/..")[0]).rstrip(b"/") + path.split(b"/..", 1)[1] or b"/"
+    return path
 
 
-class long_chain_leads_nowhere(Fault):
+@alter(lengths_of=dict)
+def long_chain_leads_nowhere(self, asked):
     """A link that leads to a file by more than seven other links leads nowhere."""
-
-    def __init__(self):
-        super().__init__()
-        self.lengths_of = {}
-
-    def alter(self, asked):
-        if asked.name == "SYMLINK":
-            link, aim = clean(asked.fields[1]), aim_of(asked)
-            self.lengths_of[link] = self.lengths_of.get(aim, 0) + 1 if aim != link else 0
-        if asked.name in ("STAT", "OPEN", "OPENDIR") and self.lengths_of.get(clean(asked.fields[0]), 0) > 8:
-            asked.fields[0] = b"/absent/absent"
+    if asked.name == "SYMLINK":
+        link, aim = clean(asked.fields[1]), aim_of(asked)
+        self.lengths_of[link] = self.lengths_of.get(aim, 0) + 1 if aim != link else 0
+    if asked.name in ("STAT", "OPEN", "OPENDIR") and self.lengths_of.get(clean(asked.fields[0]), 0) > 8:
+        asked.fields[0] = NOWHERE
 
 
-class target_loses_slash(Fault):
-    """SYMLINK leaves out slashes at the end of a target."""
-
-    def alter(self, asked):
-        if asked.name == "SYMLINK":
-            asked.fields[0] = asked.fields[0].rstrip(b"/") or asked.fields[0]
+target_loses_slash = leads_to(
+    "SYMLINK leaves out slashes at the end of a target.", lambda asked, place, path:
+    path.rstrip(b"/") or path if asked.name == "SYMLINK" and place == 0 else path)
 
 
-class directory_of_link_removed(Made):
+@of_made(aims=dict)
+def directory_of_link_removed(self, asked):
     """RMDIR of a link fails, and removes the directory that it leads to if that is empty."""
-
-    def __init__(self):
-        super().__init__()
-        self.aims = {}
-
-    def of_made(self, asked):
-        if asked.name == "SYMLINK":
-            self.aims[clean(asked.fields[1])] = aim_of(asked)
-        aim = self.aims.get(clean(asked.fields[0])) if asked.name == "RMDIR" else None
-        return [asked] + [self.another("RMDIR", aim)] * (aim is not None)
+    if asked.name == "SYMLINK":
+        self.aims[clean(asked.fields[1])] = aim_of(asked)
+    aim = self.aims.get(clean(asked.fields[0])) if asked.name == "RMDIR" else None
+    return [asked] + [self.another("RMDIR", aim)] * (aim is not None)
 
 
-class slash_cannot_be_renamed_to(Refuses):
-    """RENAME to a path that ends in a slash fails."""
-
-    HIDDEN_BY = ("slash",)
-
-    def refuses(self, asked):
-        return asked.name in MOVES and asked.fields[1].endswith(b"/") and bool(asked.fields[1].strip(b"/"))
+slash_cannot_be_renamed_to = refuses(
+    "RENAME to a path that ends in a slash fails.", lambda asked:
+    asked.name in MOVES and asked.fields[1].endswith(b"/") and asked.fields[1].strip(b"/"), HIDDEN_BY=("slash",))
 
 
-class full_directory_replaces_none(Made):
+@of_made
+def full_directory_replaces_none(self, asked):
     """posix-rename of a directory that has names to the path of another directory fails."""
-
-    def of_made(self, asked):
-        if asked.name != "POSIX-RENAME":
-            return [asked]
+    if asked.name == "POSIX-RENAME":
         old, new = paths_of(asked)
-        full = any(is_below(path, old) for path in self.made)
-        return refused(asked) if full and new in self.directories() and new != old else [asked]
+        is_full = any(is_below(path, old) for path in self.made)
+        return refused(asked) if is_full and new in self.directories() and new != old else None

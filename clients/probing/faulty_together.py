@@ -18,16 +18,13 @@ from probing import planted  # noqa: E402
 LOOKERS = {"STAT", "LSTAT", "FSTAT", "READLINK", "REALPATH", "READ", "OPENDIR", "READDIR", "CLOSE"}
 
 
-class sound(planted.Bug):
+class sound(planted.Bug, asked=dict, keys=dict, known=dict, paths=dict):
     """Right: nothing is kept."""
+
+    # It knows what each request is known by, and what was replied to those that are alike; and the paths of handles.
 
     # requests whose replies are kept
     KEPT: tuple = ()
-
-    def __init__(self):
-        super().__init__()
-        # what each request is known by, and what was replied to those that are alike; the paths of handles
-        self.keys, self.known, self.paths, self.asked = {}, {}, {}, {}
 
     def requests(self, packets):
         for packet in packets:
@@ -51,33 +48,22 @@ class sound(planted.Bug):
         return known[:5] + packet[5:9] + known[9:]
 
 
-class attributes_kept(sound):
-    """STAT and LSTAT of a path give what they gave before, until the session itself changes something."""
-
-    KEPT = ("STAT", "LSTAT")
-
-
-class bytes_kept(sound):
-    """A READ gives what one of the same path and place gave before, until the session itself changes something."""
-
-    KEPT = ("READ",)
+attributes_kept = sound.but(
+    "STAT and LSTAT of a path give what they gave before, until the session itself changes something.",
+    KEPT=("STAT", "LSTAT"))
+bytes_kept = sound.but(
+    "A READ gives what one of the same path and place gave before, until the session itself changes something.",
+    KEPT=("READ",))
+links_kept = sound.but("READLINK of a path gives what it gave before, until the session itself changes something.",
+                       KEPT=("READLINK",))
 
 
-class links_kept(sound):
-    """READLINK of a path gives what it gave before, until the session itself changes something."""
-
-    KEPT = ("READLINK",)
-
-
-class names_kept(sound):
+class names_kept(sound, turns=collections.Counter):
     """A listing of a path gives what an earlier one gave, until the session itself changes something."""
 
-    KEPT = ("READDIR",)
+    # It counts how many replies each listing had.
 
-    def __init__(self):
-        super().__init__()
-        # how many replies each listing had
-        self.turns = collections.Counter()
+    KEPT = ("READDIR",)
 
     def requests(self, packets):
         super().requests(packets)

@@ -2,8 +2,8 @@
 
     python3 clients/probing/misbehaving.py KIND COMMAND [ARGUMENT ...]
 
-runs the command, a server without bugs, and stands between it and the client: KIND is the name of a class below, whose
-text says what goes wrong. Requests are passed on one at a time.
+runs the command, a server without bugs, and stands between it and the client: KIND is a name below, whose text says
+what goes wrong. Requests are passed on one at a time.
 """
 import os
 import signal
@@ -14,8 +14,7 @@ sys.path.insert(0, os.path.dirname(os.path.dirname(os.path.realpath(__file__))))
 
 import sftp3  # noqa: E402 (the folder above is not searched before)
 from probing import planted  # noqa: E402
-from probing.planted import write  # noqa: E402
-
+from probing.planted import fault, write  # noqa: E402
 
 # The flag of an owner among attributes.
 OWNER = 2
@@ -25,18 +24,32 @@ def status(number, code):
     return sftp3.packet(sftp3.STATUS, number.to_bytes(4, "big") + code.to_bytes(4, "big") + bytes(8))
 
 
+def is_done(packet):
+    return packet[4] == sftp3.STATUS and packet[9:13] == bytes(4)
+
+
+def is_refusal(packet):
+    return packet[4] == sftp3.STATUS and packet[9:13] != bytes(4)
+
+
+def say(text):
+    """Writes to standard error."""
+    sys.stderr.write(text)
+    sys.stderr.flush()
+
+
 class Healthy:
     """Nothing goes wrong."""
 
-    def __init__(self):
-        self.count = 0
+    # which request it is, from 1
+    count = 0
 
     def version(self, packet):
         """What the client gets for this VERSION."""
         return packet
 
     def before(self, asked):
-        """What is done before a request is passed on. `count` says which it is, from 1."""
+        """What is done before a request is passed on."""
 
     def request(self, asked, packet):
         """What the server gets for this request."""
@@ -51,175 +64,108 @@ class Healthy:
         return b""
 
 
+# What makes servers that do one of these in another way.
+version, before, request, reply, end = (fault(hook, Healthy) for hook in (
+    "version", "before", "request", "reply", "end"))
+
+
 class fifth_refusal(Healthy):
     """Each fifth refusal is answered with OK."""
 
-    def __init__(self):
-        super().__init__()
-        self.refusals = 0
+    refusals = 0
 
     def reply(self, asked, packet):
-        if packet[4] != sftp3.STATUS or packet[9:13] == bytes(4):
-            return packet
-        self.refusals += 1
-        return status(asked.number, sftp3.OK) if self.refusals % 5 == 0 else packet
+        self.refusals += is_refusal(packet)
+        return status(asked.number, sftp3.OK) if is_refusal(packet) and self.refusals % 5 == 0 else packet
 
 
-class one_unanswered(Healthy):
-    """The 20th request has no reply."""
-
-    def reply(self, asked, packet):
-        return b"" if self.count == 20 else packet
-
-
-class looks_unanswered(Healthy):
-    """No STAT, LSTAT, FSTAT or REALPATH has a reply."""
-
-    def reply(self, asked, packet):
-        return b"" if asked.name in ("STAT", "LSTAT", "FSTAT", "REALPATH") else packet
+one_unanswered = reply("The 20th request has no reply.", lambda self, packet: b"" if self.count == 20 else packet)
+looks_unanswered = reply(
+    "No STAT, LSTAT, FSTAT or REALPATH has a reply.",
+    lambda asked, packet: b"" if asked.name in ("STAT", "LSTAT", "FSTAT", "REALPATH") else packet)
+hang = before("Nothing is done from the 7th request on.", lambda self: time.sleep(600 if self.count == 7 else 0))
+hang_at_start = version("There is no VERSION.", lambda: time.sleep(600))
 
 
-class hang(Healthy):
-    """Nothing is done from the 7th request on."""
+@before
+def crash(self):
+    """The server is ended by a signal at the 7th request, and says why."""
+    if self.count == 7:
+        say("going on\nassertion failed: seven\n")
+        os.kill(os.getpid(), signal.SIGSEGV)
 
-    def before(self, asked):
-        if self.count == 7:
-            time.sleep(600)
+
+@version
+def exit_at_start():
+    """The server ends with a status before VERSION, and says why."""
+    say("no configuration was found\n")
+    os._exit(9)
 
 
-class hang_at_start(Healthy):
-    """There is no VERSION."""
-
-    def version(self, packet):
+@before
+def close_output(self):
+    """The server closes its output at the 7th request, and goes on."""
+    if self.count == 7:
+        os.close(1)
         time.sleep(600)
 
 
-class crash(Healthy):
-    """The server is ended by a signal at the 7th request, and says why."""
-
-    def before(self, asked):
-        if self.count == 7:
-            sys.stderr.write("going on\nassertion failed: seven\n")
-            sys.stderr.flush()
-            os.kill(os.getpid(), signal.SIGSEGV)
+garbage = reply("The reply to the 7th request is no packet.", lambda self, packet:
+                b"Segmentation fault (core dumped)\n" if self.count == 7 else packet)
 
 
-class exit_at_start(Healthy):
-    """The server ends with a status before VERSION, and says why."""
-
-    def version(self, packet):
-        sys.stderr.write("no configuration was found\n")
-        sys.stderr.flush()
-        os._exit(9)
-
-
-class close_output(Healthy):
-    """The server closes its output at the 7th request, and goes on."""
-
-    def before(self, asked):
-        if self.count == 7:
-            os.close(1)
-            time.sleep(600)
-
-
-class garbage(Healthy):
-    """The reply to the 7th request is no packet."""
-
-    def reply(self, asked, packet):
-        return b"Segmentation fault (core dumped)\n" if self.count == 7 else packet
-
-
-class flood(Healthy):
+@reply
+def flood(self, packet):
     """From the 7th request on there is no end of bytes that are no packet."""
-
-    def reply(self, asked, packet):
-        while self.count == 7:
-            os.write(1, b"\xff" * 65536)
-        return packet
+    while self.count == 7:
+        os.write(1, b"\xff" * 65536)
+    return packet
 
 
-class garbage_at_start(Healthy):
-    """A line comes before VERSION, as from a shell's start file."""
-
-    def version(self, packet):
-        return b"Welcome to this host\n" + packet
-
-
-class version_six(Healthy):
-    """VERSION has another number."""
-
-    def version(self, packet):
-        return sftp3.version(6, [])
-
-
-class short_version(Healthy):
-    """VERSION is shorter than it should be."""
-
-    def version(self, packet):
-        return sftp3.packet(sftp3.VERSION, b"\0\0")
-
-
-class reads_nothing(Healthy):
-    """The server reads nothing from the 5th request on; what it does not read fills the pipe."""
-
-    def before(self, asked):
-        if self.count == 5:
-            time.sleep(600)
+garbage_at_start = version("A line comes before VERSION, as from a shell's start file.",
+                           lambda packet: b"Welcome to this host\n" + packet)
+version_six = version("VERSION has another number.", lambda: sftp3.version(6, []))
+short_version = version("VERSION is shorter than it should be.", lambda: sftp3.packet(sftp3.VERSION, b"\0\0"))
+reads_nothing = before("The server reads nothing from the 5th request on; what it does not read fills the pipe.",
+                       lambda self: time.sleep(600 if self.count == 5 else 0))
 
 
 class loud(Healthy):
     """The server writes 1 MB to standard error, and the 30th request gets a wrong reply."""
 
     def version(self, packet):
-        sys.stderr.write("".join(f"line {number:08} of the log\n" for number in range(40000)))
-        sys.stderr.flush()
+        say("".join(f"line {number:08} of the log\n" for number in range(40000)))
         return packet
 
     def reply(self, asked, packet):
         return status(asked.number, 4) if self.count == 30 else packet
 
 
-class slow(Healthy):
-    """Each of the first 50 replies takes 100 ms."""
-
-    def before(self, asked):
-        if self.count <= 50:
-            time.sleep(0.1)
+slow = before("Each of the first 50 replies takes 100 ms.", lambda self: time.sleep(0.1 if self.count <= 50 else 0))
+slow_removal = before("Each reply to REMOVE and RMDIR takes a second.",
+                      lambda asked: time.sleep(1 if asked.name in ("REMOVE", "RMDIR") else 0))
 
 
-class slow_removal(Healthy):
-    """Each reply to REMOVE and RMDIR takes a second."""
-
-    def before(self, asked):
-        if asked.name in ("REMOVE", "RMDIR"):
+@before
+def waits_once(self):
+    """The 9th reply takes a second, and then the file of $MARK is there."""
+    if self.count == 9:
+        with open(os.environ["MARK"], "wb"):
             time.sleep(1)
 
 
-class waits_once(Healthy):
-    """The 9th reply takes a second, and then the file of $MARK is there."""
-
-    def before(self, asked):
-        if self.count == 9:
-            with open(os.environ["MARK"], "wb"):
-                time.sleep(1)
-
-
-class wrong_id(Healthy):
-    """The 9th reply has an id that no request has."""
-
-    def reply(self, asked, packet):
-        return packet if self.count != 9 else packet[:5] + (asked.number + 5000).to_bytes(4, "big") + packet[9:]
+wrong_id = reply(
+    "The 9th reply has an id that no request has.", lambda self, asked, packet:
+    packet[:5] + (asked.number + 5000).to_bytes(4, "big") + packet[9:] if self.count == 9 else packet)
 
 
 class swapped_ids(Healthy):
     """Of two requests that are in flight together, two STATUS get each other's id, where they differ."""
 
-    def __init__(self):
-        super().__init__()
-        self.kept = None
+    kept = None
 
     def reply(self, asked, packet):
-        if self.kept is None and packet[4] == sftp3.STATUS and packet[9:13] != bytes(4):
+        if self.kept is None and is_refusal(packet):
             self.kept = packet
             return b""
         if self.kept and packet[4] == sftp3.STATUS and packet[9:13] != self.kept[9:13]:
@@ -228,106 +174,56 @@ class swapped_ids(Healthy):
         return packet
 
 
-class twice(Healthy):
-    """The 9th reply comes twice."""
-
-    def reply(self, asked, packet):
-        return packet * 2 if self.count == 9 else packet
-
-
-class to_nothing(Healthy):
-    """A reply that nobody asked for comes before the 9th."""
-
-    def reply(self, asked, packet):
-        return status(900000, 0) + packet if self.count == 9 else packet
-
-
-class short_packet(Healthy):
-    """The last three bytes of the 9th reply do not come, and the server hangs."""
-
-    def reply(self, asked, packet):
-        return packet[:-3] if self.count == 9 else packet if self.count < 9 else b""
+twice = reply("The 9th reply comes twice.", lambda self, packet: packet * 2 if self.count == 9 else packet)
+to_nothing = reply("A reply that nobody asked for comes before the 9th.",
+                   lambda self, packet: status(900000, 0) + packet if self.count == 9 else packet)
+short_packet = reply("The last three bytes of the 9th reply do not come, and the server hangs.", lambda self, packet:
+                     packet[:-3] if self.count == 9 else packet if self.count < 9 else b"")
+cut_reply = reply("The 9th reply is a packet that ends inside a field.", lambda self, packet:
+                  sftp3.packet(packet[4], packet[5:9] + b"\0") if self.count == 9 else packet)
+tiny_packet = reply("The 9th reply is a packet of one byte.",
+                    lambda self, packet: b"\0\0\0\1\x65" if self.count == 9 else packet)
+huge_packet = reply("The 9th reply says that it has 4 GB.",
+                    lambda self, packet: b"\xff\xff\xff\xff" + packet[4:] if self.count == 9 else packet)
+second_version = reply("The 9th reply is a VERSION.",
+                       lambda self, packet: sftp3.version(3, []) if self.count == 9 else packet)
 
 
-class cut_reply(Healthy):
-    """The 9th reply is a packet that ends inside a field."""
-
-    def reply(self, asked, packet):
-        return sftp3.packet(packet[4], packet[5:9] + b"\0") if self.count == 9 else packet
-
-
-class tiny_packet(Healthy):
-    """The 9th reply is a packet of one byte."""
-
-    def reply(self, asked, packet):
-        return b"\0\0\0\1\x65" if self.count == 9 else packet
-
-
-class huge_packet(Healthy):
-    """The 9th reply says that it has 4 GB."""
-
-    def reply(self, asked, packet):
-        return b"\xff\xff\xff\xff" + packet[4:] if self.count == 9 else packet
-
-
-class second_version(Healthy):
-    """The 9th reply is a VERSION."""
-
-    def reply(self, asked, packet):
-        return sftp3.version(3, []) if self.count == 9 else packet
-
-
-class handles(Healthy):
+@reply
+def handles(asked, packet):
     """A request that opens nothing is answered with a HANDLE, if it is refused."""
-
-    def reply(self, asked, packet):
-        if packet[4] == sftp3.STATUS and packet[9:13] != bytes(4) and asked.name not in ("OPEN", "OPENDIR"):
-            return sftp3.packet(sftp3.HANDLE, packet[5:9] + sftp3.string(b"0000"))
-        return packet
+    if is_refusal(packet) and asked.name not in ("OPEN", "OPENDIR"):
+        return sftp3.packet(sftp3.HANDLE, packet[5:9] + sftp3.string(b"0000"))
+    return packet
 
 
-class data_for_all(Healthy):
-    """Each reply that is OK is DATA."""
-
-    def reply(self, asked, packet):
-        if packet[4] == sftp3.STATUS and packet[9:13] == bytes(4):
-            return sftp3.packet(sftp3.DATA, packet[5:9] + sftp3.string(b"OK"))
-        return packet
+data_for_all = reply("Each reply that is OK is DATA.", lambda packet: sftp3.packet(
+    sftp3.DATA, packet[5:9] + sftp3.string(b"OK")) if is_done(packet) else packet)
+link_first = request(
+    "SYMLINK takes its paths in the order of the draft.", lambda asked, packet:
+    sftp3.request(asked.number, asked.name, *asked.fields[::-1]) if asked.name == "SYMLINK" else packet)
 
 
-class link_first(Healthy):
-    """SYMLINK takes its paths in the order of the draft."""
-
-    def request(self, asked, packet):
-        if asked.name != "SYMLINK":
-            return packet
-        return sftp3.request(asked.number, asked.name, *asked.fields[::-1])
-
-
-class without_owners(Healthy):
+@reply
+def without_owners(packet):
     """The attributes of things have no owner."""
-
-    def reply(self, asked, packet):
-        if packet[4] != sftp3.ATTRS:
-            return packet
-        flags = int.from_bytes(packet[9:13], "big") & ~OWNER
-        return sftp3.packet(sftp3.ATTRS, packet[5:9] + flags.to_bytes(4, "big") + packet[13:21] + packet[29:])
+    if packet[4] != sftp3.ATTRS:
+        return packet
+    flags = int.from_bytes(packet[9:13], "big") & ~OWNER
+    return sftp3.packet(sftp3.ATTRS, packet[5:9] + flags.to_bytes(4, "big") + packet[13:21] + packet[29:])
 
 
-class later_codes(Healthy):
+@reply
+def later_codes(asked, packet):
     """A handle that is none is refused with a code that later versions have."""
-
-    def reply(self, asked, packet):
-        is_refused = packet[4] == sftp3.STATUS and packet[9:13] == sftp3.FAILURE.to_bytes(4, "big")
-        return status(asked.number, 9) if is_refused and asked.name == "CLOSE" else packet
+    is_refused = packet[4] == sftp3.STATUS and packet[9:13] == sftp3.FAILURE.to_bytes(4, "big")
+    return status(asked.number, 9) if is_refused and asked.name == "CLOSE" else packet
 
 
 class unknown_unanswered(Healthy):
     """Each second OPEN to write is refused, and a request through a handle that was never given has no reply."""
 
-    def __init__(self):
-        super().__init__()
-        self.opened = 0
+    opened = 0
 
     def reply(self, asked, packet):
         if b"never given" in (asked.handle() or b""):
@@ -336,51 +232,27 @@ class unknown_unanswered(Healthy):
         return status(asked.number, sftp3.FAILURE) if asked.name == "OPEN" and self.opened % 2 == 0 else packet
 
 
-class long_texts(Healthy):
-    """Each STATUS has a text of 250,000 bytes, which every reply may."""
-
-    def reply(self, asked, packet):
-        if packet[4] != sftp3.STATUS:
-            return packet
-        return sftp3.packet(sftp3.STATUS, packet[5:13] + sftp3.string(b"x" * 250_000) + sftp3.string(b""))
-
-
-class long_handles(Healthy):
-    """Each handle has 250,000 bytes."""
-
-    def reply(self, asked, packet):
-        return sftp3.packet(sftp3.HANDLE, packet[5:9] + sftp3.string(b"h" * 250_000)) \
-            if packet[4] == sftp3.HANDLE else packet
+long_texts = reply("Each STATUS has a text of 250,000 bytes, which every reply may.", lambda packet: sftp3.packet(
+    sftp3.STATUS, packet[5:13] + sftp3.string(b"x" * 250_000) + sftp3.string(b""))
+    if packet[4] == sftp3.STATUS else packet)
+long_handles = reply("Each handle has 250,000 bytes.", lambda packet: sftp3.packet(
+    sftp3.HANDLE, packet[5:9] + sftp3.string(b"h" * 250_000)) if packet[4] == sftp3.HANDLE else packet)
+last_words = end("Bytes come after the last reply.", lambda: b"bye\n")
+last_reply = end("A reply to nothing comes after the last.", lambda: status(77777, 0))
 
 
-class last_words(Healthy):
-    """Bytes come after the last reply."""
-
-    def end(self):
-        return b"bye\n"
-
-
-class last_reply(Healthy):
-    """A reply to nothing comes after the last."""
-
-    def end(self):
-        return status(77777, 0)
-
-
-class end_by_signal(Healthy):
+@end
+def end_by_signal():
     """The server is ended by a signal when its input has ended."""
-
-    def end(self):
-        os.kill(os.getpid(), signal.SIGABRT)
-        time.sleep(600)
+    os.kill(os.getpid(), signal.SIGABRT)
+    time.sleep(600)
 
 
-class no_end(Healthy):
+@end
+def no_end():
     """The server goes on when its input has ended, and SIGTERM does not end it."""
-
-    def end(self):
-        signal.signal(signal.SIGTERM, signal.SIG_IGN)
-        time.sleep(600)
+    signal.signal(signal.SIGTERM, signal.SIG_IGN)
+    time.sleep(600)
 
 
 class now_and_then(Healthy):
@@ -388,43 +260,40 @@ class now_and_then(Healthy):
     MISBEHAVING_COUNT names the file of the count."""
 
     def version(self, packet):
-        self.wrong = sessions_before() % 5 == 1
+        self.wrong = self.is_meant(sessions_before())
         return packet
+
+    def is_meant(self, before):
+        return before % 5 == 1
 
     def reply(self, asked, packet):
         return status(asked.number, 7) if self.wrong and self.count == 12 else packet
 
 
-class only_once(now_and_then):
-    """In the first session after the probe's look at the root, the 12th request gets a wrong reply."""
-
-    def version(self, packet):
-        self.wrong = sessions_before() == 1
-        return packet
+only_once = fault("is_meant", now_and_then)(
+    "In the first session after the probe's look at the root, the 12th request gets a wrong reply.",
+    lambda before: before == 1)
 
 
-class starts_at_times(Healthy):
+@version
+def starts_at_times(packet):
     """Each third start fails. MISBEHAVING_COUNT names the file of the count."""
-
-    def version(self, packet):
-        if sessions_before() % 3 == 2:
-            sys.stderr.write("the port is taken\n")
-            sys.stderr.flush()
-            os._exit(1)
-        return packet
+    if sessions_before() % 3 == 2:
+        say("the port is taken\n")
+        os._exit(1)
+    return packet
 
 
-class two_faults(Healthy):
+@reply
+def two_faults(asked, packet):
     """A READ that finds bytes lacks the last, and attributes of FSTAT have other permissions."""
-
-    def reply(self, asked, packet):
-        if packet[4] == sftp3.DATA and len(packet) > 14:
-            return sftp3.packet(sftp3.DATA, packet[5:9] + sftp3.string(packet[13:-1]))
-        if asked.name == "FSTAT" and packet[4] == sftp3.ATTRS:
-            given = sftp3.attributes_in(packet)
-            given["permissions"] ^= 0o7
-            return sftp3.packet(sftp3.ATTRS, packet[5:9] + sftp3.attributes(given))
-        return packet
+    if packet[4] == sftp3.DATA and len(packet) > 14:
+        return sftp3.packet(sftp3.DATA, packet[5:9] + sftp3.string(packet[13:-1]))
+    if asked.name == "FSTAT" and packet[4] == sftp3.ATTRS:
+        given = sftp3.attributes_in(packet)
+        given["permissions"] ^= 0o7
+        return sftp3.packet(sftp3.ATTRS, packet[5:9] + sftp3.attributes(given))
+    return packet
 
 
 def sessions_before():

@@ -2,16 +2,16 @@
 
     python3 clients/probing/planted.py BUG COMMAND [ARGUMENT ...]
 
-runs the command, a server without bugs, and stands between it and the client: BUG is the name of a function below that
-changes what passes.
+runs the command, a server without bugs, and stands between it and the client: BUG is a name below, whose text says what
+goes wrong.
 """
+import contextlib
 import itertools
 import os
 import subprocess
 import sys
 import textwrap
 import threading
-from contextlib import suppress
 
 sys.path.insert(0, os.path.dirname(os.path.dirname(os.path.realpath(__file__))))
 
@@ -20,11 +20,25 @@ from sftp3.fields import LONGEST_HANDLE  # noqa: E402
 
 
 class Bug:
-    """What a server does right: each change gives packets to pass on."""
+    """What a server does right: each change gives packets to pass on. A class says in its first line what it keeps, as
+    in `class append_read(Bug, opens=set)`: it is made anew for each server."""
+
+    ANEW: dict = {}
+
+    def __init_subclass__(cls, **kept):
+        super().__init_subclass__()
+        cls.ANEW = kept
 
     def __init__(self):
         # the requests by their ids, and what leads to the server
         self.names, self.pipe = {}, None
+        for above in type(self).__mro__:
+            vars(self).update((name, make()) for name, make in vars(above).get("ANEW", {}).items())
+
+    @classmethod
+    def but(cls, text, **members):
+        """The same with other attributes, and what goes wrong then."""
+        return type(cls.__name__, (cls,), {"__doc__": text, "__module__": cls.__module__, **members})
 
     def opening(self, packet):
         return packet
@@ -34,10 +48,16 @@ class Bug:
 
     def requests(self, packets):
         """What the server gets in place of these requests, which came together."""
+        found = []
         for packet in packets:
             asked = sftp3.decode(packet)
             self.names[asked.number] = asked.name
-        return packets
+            found.append(self.request(asked, packet))
+        return found
+
+    def request(self, _asked, packet):
+        """What the server gets in place of this request."""
+        return packet
 
     def replies(self, packets):
         """What the client gets in place of these packets, which came together."""
@@ -48,22 +68,55 @@ class Bug:
         return self.changed(self.names.get(int.from_bytes(packet[5:9], "big")), packet)
 
     def changed(self, _name, packet):
+        """The same, of a reply to a request of this name."""
         return packet
 
 
-class longest_handles(Bug):
+def fault(hook, *above):
+    """What makes faults that override one method of these classes. Each has a sentence, and a function that takes those
+    parameters of the method that it names; or it is the function below a decorator, whose text is the sentence:
+
+        write_lost_by_size = loses("A WRITE of more than 20,000 bytes is lost.", lambda data: len(data) > 20000)
+
+        @ask(made=set, HIDDEN_BY=("slash",))
+        def directory_is_made_once(self, asked):
+
+    Words in small letters say what the fault keeps: it is made anew for each server. Those in capitals are attributes.
+    """
+    offered = [name.lstrip("_") for name in parameters(getattr(type("Above", above, {}), hook))]
+
+    def make(*given, **members):
+        if not given:
+            return lambda act: make(act, **members)
+        text, act = given if len(given) == 2 else (given[0].__doc__, given[0])
+        fixed = {name: value for name, value in members.items() if name.isupper()}
+        kept = {name: value for name, value in members.items() if name not in fixed}
+        own = {"__doc__": text, "__module__": act.__module__, hook: taking(act, offered)}
+        return type(act.__name__, above, {**own, **fixed}, **kept)
+    return make
+
+
+def parameters(function):
+    return function.__code__.co_varnames[:function.__code__.co_argcount]
+
+
+def taking(act, offered):
+    """A method that gives a function what it names of this."""
+    places = [offered.index(name) for name in parameters(act)]
+    return lambda *given: act(*(given[place] for place in places))
+
+
+changed, request = fault("changed", Bug), fault("request", Bug)
+
+
+class longest_handles(Bug, handles=dict):
     """Right: handles have as many bytes as the draft allows."""
 
-    def __init__(self):
-        super().__init__()
-        self.handles = {}
-
-    def requests(self, packets):
-        asked = [sftp3.decode(packet) for packet in super().requests(packets)]
-        for one in asked:
-            if one.handle() is not None:
-                one.fields[0] = self.handles.get(one.handle(), b"none")
-        return [sftp3.encode(one) for one in asked]
+    def request(self, asked, packet):
+        if asked.handle() is None:
+            return packet
+        asked.fields[0] = self.handles.get(asked.handle(), b"none")
+        return sftp3.encode(asked)
 
     def changed(self, _name, packet):
         handle = sftp3.Reply(packet).handle
@@ -74,13 +127,9 @@ class longest_handles(Bug):
         return sftp3.packet(sftp3.HANDLE, packet[5:9] + sftp3.string(longest))
 
 
-class wrong_byte(Bug):
-    """The last byte of DATA of five bytes or more is another."""
-
-    def changed(self, _name, packet):
-        if packet[4] != sftp3.DATA or len(packet) < 18:
-            return packet
-        return packet[:-1] + bytes([packet[-1] ^ 1])
+wrong_byte = changed(
+    "The last byte of DATA of five bytes or more is another.", lambda packet:
+    packet[:-1] + bytes([packet[-1] ^ 1]) if packet[4] == sftp3.DATA and len(packet) >= 18 else packet)
 
 
 class Showing(Bug):
@@ -99,153 +148,111 @@ class Showing(Bug):
         return given
 
 
-class fixed_owners(Showing):
-    """All things have one owner."""
-
-    def shown(self, given):
-        return {**given, "owner": (65534, 65534)}
+def open_to_all(given):
+    return {**given, "permissions": given["permissions"] & 0o170000 | 0o777}
 
 
-class fixed_permissions(Showing):
-    """All things have the permissions 0777."""
+shown = fault("shown", Showing)
 
-    def shown(self, given):
-        return {**given, "permissions": given["permissions"] & 0o170000 | 0o777}
-
-
-class fixed_sizes(fixed_permissions):
-    """The same, and 7 bytes each."""
-
-    def shown(self, given):
-        return {**super().shown(given), "size": 7}
+fixed_owners = shown("All things have one owner.", lambda given: {**given, "owner": (65534, 65534)})
+fixed_permissions = shown("All things have the permissions 0777.", open_to_all)
+fixed_sizes = shown("The same, and 7 bytes each.", lambda given: {**open_to_all(given), "size": 7})
+no_owners = fault("shown", Showing, wrong_byte)(
+    "Attributes have no owner; and the last byte of DATA of five bytes or more is another.",
+    lambda given: {name: value for name, value in given.items() if name != "owner"})
 
 
-class no_owners(Showing, wrong_byte):
-    """Attributes have no owner; and the last byte of DATA of five bytes or more is another."""
-
-    def shown(self, given):
-        return {name: value for name, value in given.items() if name != "owner"}
-
-
-class lost_write(Bug):
+@request
+def lost_write(asked, packet):
     """A WRITE behind the first byte is not done, but said to be."""
-
-    def requests(self, packets):
-        kept = []
-        for packet in super().requests(packets):
-            asked = sftp3.decode(packet)
-            if asked.name == "WRITE" and asked.fields[1] > 0:
-                asked.fields[2] = b""
-                packet = sftp3.encode(asked)
-            kept.append(packet)
-        return kept
+    if asked.name != "WRITE" or asked.fields[1] == 0:
+        return packet
+    asked.fields[2] = b""
+    return sftp3.encode(asked)
 
 
-class missing_name(Bug):
+@changed
+def missing_name(name, packet):
     """A listing lacks its last name, if it has two or more."""
-
-    def changed(self, name, packet):
-        fields = sftp3.Fields(packet[9:])
-        if name != "READDIR" or packet[4] != sftp3.NAME or fields.uint32() < 2:
-            return packet
-        ends = []
-        while fields.place < len(fields.data):
-            fields.string(), fields.string(), fields.attributes()
-            ends.append(fields.place)
-        body = packet[5:9] + (len(ends) - 1).to_bytes(4, "big") + packet[13:9 + ends[-2]]
-        return sftp3.packet(sftp3.NAME, body)
+    fields = sftp3.Fields(packet[9:])
+    if name != "READDIR" or packet[4] != sftp3.NAME or fields.uint32() < 2:
+        return packet
+    ends = []
+    while fields.place < len(fields.data):
+        fields.string(), fields.string(), fields.attributes()
+        ends.append(fields.place)
+    body = packet[5:9] + (len(ends) - 1).to_bytes(4, "big") + packet[13:9 + ends[-2]]
+    return sftp3.packet(sftp3.NAME, body)
 
 
-class name_twice(Bug):
+@changed
+def name_twice(name, packet):
     """A reply of a listing gives its first name twice."""
-
-    def changed(self, name, packet):
-        if name != "READDIR" or packet[4] != sftp3.NAME:
-            return packet
-        items = sftp3.names_in(packet)
-        return sftp3.packet(sftp3.NAME, packet[5:9] + sftp3.names(items + items[:1]))
+    if name != "READDIR" or packet[4] != sftp3.NAME:
+        return packet
+    items = sftp3.names_in(packet)
+    return sftp3.packet(sftp3.NAME, packet[5:9] + sftp3.names(items + items[:1]))
 
 
-class wrong_code(Bug):
-    """RMDIR that fails is said to be denied."""
-
-    def changed(self, name, packet):
-        if name != "RMDIR" or packet[9:13] != b"\0\0\0\4":
-            return packet
-        return packet[:9] + b"\0\0\0\3" + packet[13:]
+def in_place_of_failure(code, packet):
+    """The reply, with this code if it has the code of FAILURE."""
+    return packet[:9] + code.to_bytes(4, "big") + packet[13:] if packet[9:13] == b"\0\0\0\4" else packet
 
 
-class told_done(Bug):
-    """RENAME that fails is said to be done."""
-
-    def changed(self, name, packet):
-        if name != "RENAME" or packet[9:13] != b"\0\0\0\4":
-            return packet
-        return packet[:9] + b"\0\0\0\0" + packet[13:]
-
-
-class done_extension(Bug):
-    """An extension that nobody knows is said to be done."""
-
-    def changed(self, name, packet):
-        return packet if name != "EXTENDED" else sftp3.packet(sftp3.STATUS, packet[5:9] + bytes(12))
+wrong_code = changed("RMDIR that fails is said to be denied.", lambda name, packet: in_place_of_failure(
+    sftp3.PERMISSION_DENIED, packet) if name == "RMDIR" else packet)
+told_done = changed("RENAME that fails is said to be done.", lambda name, packet: in_place_of_failure(
+    sftp3.OK, packet) if name == "RENAME" else packet)
+done_extension = changed(
+    "An extension that nobody knows is said to be done.", lambda name, packet:
+    sftp3.packet(sftp3.STATUS, packet[5:9] + bytes(12)) if name == "EXTENDED" else packet)
+malformed = changed(
+    "The reply to READLINK has a byte more than it should.", lambda name, packet:
+    sftp3.packet(packet[4], packet[5:] + b"\0") if name == "READLINK" else packet)
 
 
-class malformed(Bug):
-    """The reply to READLINK has a byte more than it should."""
-
-    def changed(self, name, packet):
-        return packet if name != "READLINK" else sftp3.packet(packet[4], packet[5:] + b"\0")
-
-
-class crash(Bug):
+@request
+def crash(asked, packet):
     """A path with a byte of 0 ends the server."""
-
-    def requests(self, packets):
-        for packet in packets:
-            asked = sftp3.decode(packet)
-            if any(isinstance(value, bytes) and b"/f\0" in value for value in asked.fields):
-                os._exit(7)
-        return super().requests(packets)
+    if any(isinstance(value, bytes) and b"/f\0" in value for value in asked.fields):
+        os._exit(7)
+    return packet
 
 
 class overtaking(Bug):
     """A READ that came together with the WRITE before it is done first."""
 
     def requests(self, packets):
-        packets = list(super().requests(packets))
-        for place in range(1, len(packets)):
-            if packets[place - 1][4] == 6 and packets[place][4] == 5:
-                packets[place - 1], packets[place] = packets[place], packets[place - 1]
-        return packets
-
-
-class overtaking_elsewhere(Bug):
-    """A READ that came together with the WRITE before it is done first, if both have handles of their own."""
-
-    def requests(self, packets):
-        packets = list(super().requests(packets))
+        packets = super().requests(packets)
         for place in range(1, len(packets)):
             first, second = (sftp3.decode(packet) for packet in packets[place - 1:place + 1])
-            if (first.name, second.name) == ("WRITE", "READ") and first.handle() != second.handle():
+            if (first.name, second.name) == ("WRITE", "READ") and self.are_meant(first, second):
                 packets[place - 1], packets[place] = packets[place], packets[place - 1]
         return packets
 
+    def are_meant(self, _first, _second):
+        return True
 
-class append_read(Bug):
+
+overtaking_elsewhere = fault("are_meant", overtaking)(
+    "A READ that came together with the WRITE before it is done first, if both have handles of their own.",
+    lambda first, second: first.handle() != second.handle())
+
+
+def ended(packet):
+    """EOF in place of a reply."""
+    return sftp3.packet(sftp3.STATUS, packet[5:9] + b"\0\0\0\1" + bytes(8))
+
+
+class append_read(Bug, opens=set, handles=set, reads=set):
     """A READ through a handle that is open with APPEND finds nothing."""
 
-    def __init__(self):
-        super().__init__()
-        self.opens, self.handles, self.reads = set(), set(), set()
-
-    def requests(self, packets):
-        for asked in map(sftp3.decode, packets):
-            if asked.name == "OPEN" and asked.fields[1] & sftp3.APPEND:
-                self.opens.add(asked.number)
-            if asked.name == "READ" and asked.handle() in self.handles:
-                self.reads.add(asked.number)
-        return super().requests(packets)
+    def request(self, asked, packet):
+        if asked.name == "OPEN" and asked.fields[1] & sftp3.APPEND:
+            self.opens.add(asked.number)
+        if asked.name == "READ" and asked.handle() in self.handles:
+            self.reads.add(asked.number)
+        return packet
 
     def reply(self, packet):
         reply = sftp3.Reply(packet)
@@ -253,57 +260,39 @@ class append_read(Bug):
             self.handles.add(reply.handle)
         elif reply.handle is not None:
             self.handles.discard(reply.handle)
-        if reply.number in self.reads and reply.kind == sftp3.DATA:
-            return sftp3.packet(sftp3.STATUS, packet[5:9] + b"\0\0\0\1" + bytes(8))
-        return packet
+        return ended(packet) if reply.number in self.reads and reply.kind == sftp3.DATA else packet
 
 
-class moved_listing(Bug):
+class moved_listing(Bug, paths=dict, places=dict, moved=set, lost=set):
     """A listing of a directory that was given another name by its own path has ended."""
 
-    def __init__(self):
-        super().__init__()
-        self.paths, self.places, self.moved, self.lost = {}, {}, set(), set()
-
-    def requests(self, packets):
-        for asked in map(sftp3.decode, packets):
-            if asked.name == "OPENDIR":
-                self.paths[asked.number] = asked.fields[0]
-            if asked.name in ("RENAME", "POSIX-RENAME"):
-                self.moved |= {handle for handle, path in self.places.items() if path == asked.fields[0]}
-            if asked.name == "READDIR" and asked.handle() in self.moved:
-                self.lost.add(asked.number)
-        return super().requests(packets)
+    def request(self, asked, packet):
+        if asked.name == "OPENDIR":
+            self.paths[asked.number] = asked.fields[0]
+        if asked.name in ("RENAME", "POSIX-RENAME"):
+            self.moved |= {handle for handle, path in self.places.items() if path == asked.fields[0]}
+        if asked.name == "READDIR" and asked.handle() in self.moved:
+            self.lost.add(asked.number)
+        return packet
 
     def reply(self, packet):
         reply = sftp3.Reply(packet)
         if reply.handle is not None:
             self.moved.discard(reply.handle)
             self.places[reply.handle] = self.paths.get(reply.number)
-        if reply.number in self.lost and reply.kind == sftp3.NAME:
-            return sftp3.packet(sftp3.STATUS, packet[5:9] + b"\0\0\0\1" + bytes(8))
-        return packet
+        return ended(packet) if reply.number in self.lost and reply.kind == sftp3.NAME else packet
 
 
-class rename_over(Bug):
-    """RENAME replaces what is at the new place, as posix-rename does."""
-
-    def requests(self, packets):
-        kept = []
-        for packet in super().requests(packets):
-            asked = sftp3.decode(packet)
-            if asked.name == "RENAME":
-                packet = sftp3.request(asked.number, "POSIX-RENAME", *asked.fields)
-            kept.append(packet)
-        return kept
+rename_over = request(
+    "RENAME replaces what is at the new place, as posix-rename does.", lambda asked, packet:
+    sftp3.request(asked.number, "POSIX-RENAME", *asked.fields) if asked.name == "RENAME" else packet)
 
 
-class further_extension(Bug):
+@fault("opening", Bug)
+def further_extension(packet):
     """No bug: VERSION has an extension more."""
-
-    def opening(self, packet):
-        number, pairs = sftp3.version_of(packet)
-        return sftp3.version(number, pairs + [(b"statvfs@openssh.com", b"2")])
+    number, pairs = sftp3.version_of(packet)
+    return sftp3.version(number, pairs + [(b"statvfs@openssh.com", b"2")])
 
 
 def packets_of(data):
@@ -327,7 +316,7 @@ def pass_on(source, target, change, see=lambda left: None):
     what is no whole packet."""
     left = b""
     piece = os.read(source, 1 << 18)
-    with suppress(BrokenPipeError):
+    with contextlib.suppress(BrokenPipeError):
         while piece:
             found, left = packets_of(left + piece)
             for packet in change(found):
