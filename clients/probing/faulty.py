@@ -180,11 +180,15 @@ class Asks(Fault, waits=dict):
         """Whether a link is at a path that leads to nothing."""
         return self.kind_now(path) == LINK and self.kind_now(path, "STAT") is None
 
+    def target_now(self, path):
+        """The target of the link at a path, or None."""
+        reply = self.now("READLINK", path)
+        return sftp3.names_in(reply)[0][0] if reply[4] == sftp3.NAME else None
+
     def aim(self, path):
         """Where a link leads by its own target, as a path, or None if no link is there."""
-        reply = self.now("READLINK", path)
-        top = posixpath.dirname(b"/" + path.lstrip(b"/"))
-        return posixpath.join(top, sftp3.names_in(reply)[0][0]) if reply[4] == sftp3.NAME else None
+        target = self.target_now(path)
+        return None if target is None else posixpath.join(posixpath.dirname(b"/" + path.lstrip(b"/")), target)
 
     def names_now(self, path):
         """The names in a directory, without dots, or None."""

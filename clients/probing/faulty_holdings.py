@@ -4,13 +4,13 @@ import re
 
 import sftp3
 from probing.faulty import (
-    END, LOOKS, MOVES, SETS, Asks, Fault, Meets, Reads, Refuses, Writes, attributes_of, clean, data_of, is_below,
-    paths_of, sets_size, status, with_attributes, with_data)
+    DIRECTORY, END, FILE, KIND, LINK, LOOKS, MOVES, SETS, Asks, Fault, Meets, Reads, Refuses, Writes, attributes_of,
+    clean, data_of, is_below, paths_of, sets_size, status, with_attributes, with_data)
 from probing.faulty_contents import is_text
-from probing.faulty_places import After, beside
-from probing.faulty_served import DIRECTORY, FILE, KIND, LINK, Walks
+from probing.faulty_places import beside
 from probing.faulty_stores import Made
-from probing.faulty_times import Timed, Touching
+from probing.faulty_takeovers import After
+from probing.faulty_times import NOW, TIMES, Touching
 from sftp3 import APPEND, CREAT, EXCL, READ, TRUNC, WRITE
 
 # The user and the group of the server.
@@ -27,7 +27,7 @@ class set_id_lost_with_owner(Fault):
             asked.fields[1]["permissions"] &= ~0o6000
 
 
-class directory_keeps_set_id(Walks):
+class directory_keeps_set_id(Asks):
     """SETSTAT of permissions of a directory does not take the set-gid bit away, as `chmod` with a number."""
 
     HIDDEN_BY = ("set-id",)
@@ -47,7 +47,7 @@ class no_permissions_are_usual(Fault):
             del asked.fields[2]["permissions"]
 
 
-class new_read_only_cannot_be_written(Refuses, Walks):
+class new_read_only_cannot_be_written(Refuses, Asks):
     """A WRITE through a handle fails if its OPEN made the file with permissions that let its owner not write."""
 
     def alter(self, asked):
@@ -66,7 +66,7 @@ class extended_pairs_fail(Refuses):
         return asked.name == "SETSTAT" and "extended" in asked.fields[1]
 
 
-class emptied_loses_owner(Walks):
+class emptied_loses_owner(Asks):
     """OPEN with TRUNC gives a file that is there to the server's user."""
 
     def ask(self, asked):
@@ -75,7 +75,7 @@ class emptied_loses_owner(Walks):
         return ([self.another("SETSTAT", asked.fields[0], SERVER)] if is_meant else []) + [asked]
 
 
-class moved_loses_owner(Walks):
+class moved_loses_owner(Asks):
     """RENAME gives a file to the server's user."""
 
     def ask(self, asked):
@@ -95,7 +95,7 @@ class moved_tree_loses_owner(Made):
         return [asked] + [self.another("SETSTAT", new + path[len(old):], SERVER) for path in inside]
 
 
-class replacing_takes_owner(Walks):
+class replacing_takes_owner(Asks):
     """What posix-rename puts in the place of a file gets the owner of that."""
 
     OF, FIELD = FILE, "owner"
@@ -134,7 +134,7 @@ class remade_has_old_owner(After):
             self.now("SETSTAT", asked.fields[0], {"owner": self.making["owner"]})
 
 
-class owner_of_link_lost(Walks):
+class owner_of_link_lost(Asks):
     """SETSTAT of an owner by a link is told done, and leaves that of the file that it leads to."""
 
     def alter(self, asked):
@@ -150,8 +150,10 @@ class owner_is_signed(Fault):
             asked.fields[1]["owner"] = tuple(min(number, 2 ** 31 - 1) for number in asked.fields[1]["owner"])
 
 
-class times_of_read_only_lost(Timed, Asks):
+class times_of_read_only_lost(Asks):
     """SETSTAT and FSETSTAT of times are told done, and are not, of a file that its owner may not write."""
+
+    OPTIONS = TIMES
 
     def alter(self, asked):
         if asked.name in SETS and "times" in asked.fields[1]:
@@ -160,8 +162,10 @@ class times_of_read_only_lost(Timed, Asks):
                 del asked.fields[1]["times"]
 
 
-class times_by_reader_lost(Timed):
+class times_by_reader_lost(Fault):
     """FSETSTAT of times through a handle that is open to read alone is told done, and is not."""
+
+    OPTIONS = TIMES
 
     def alter(self, asked):
         if asked.name == "FSETSTAT" and self.flags(asked) == READ:
@@ -173,26 +177,26 @@ class permissions_by_handle_touch(Touching):
 
     def ask(self, asked):
         is_meant = asked.name == "FSETSTAT" and asked.fields[1].keys() == {"permissions"}
-        return [asked] + ([self.touched("FSETSTAT", asked.fields[0])] if is_meant else [])
+        return [asked] + ([self.another("FSETSTAT", asked.fields[0], {"times": (NOW, NOW)})] if is_meant else [])
 
 
-class rename_touches_directory(Walks, Touching):
+class rename_touches_directory(Asks, Touching):
     """RENAME of a directory sets its time of modification."""
 
     def ask(self, asked):
         is_meant = asked.name == "RENAME" and self.kind_now(asked.fields[0]) == DIRECTORY
-        return [asked] + ([self.touched("SETSTAT", asked.fields[1])] if is_meant else [])
+        return [asked] + ([self.another("SETSTAT", asked.fields[1], {"times": (NOW, NOW)})] if is_meant else [])
 
 
-class replacing_touches(Walks, Touching):
+class replacing_touches(Asks, Touching):
     """posix-rename of a file to the place of another one sets its time of modification."""
 
     def ask(self, asked):
         is_meant = asked.name == "POSIX-RENAME" and {self.kind_now(path) for path in asked.fields} == {FILE}
-        return [asked] + ([self.touched("SETSTAT", asked.fields[1])] if is_meant else [])
+        return [asked] + ([self.another("SETSTAT", asked.fields[1], {"times": (NOW, NOW)})] if is_meant else [])
 
 
-class Sees(Walks, Meets):
+class Sees(Asks, Meets):
     """Looks at what is there, and knows what is open by its path."""
 
     def openers_at(self, path):
@@ -283,7 +287,7 @@ class append_goes_to_path(Sees):
         return [sftp3.Request(asked.number, "WRITE", [asked.fields[0], 0, b""])]
 
 
-class ring_of_two_is_found(Walks):
+class ring_of_two_is_found(Asks):
     """STAT of a link that leads to a link which leads back to it shows it."""
 
     def alter(self, asked):
@@ -293,7 +297,7 @@ class ring_of_two_is_found(Walks):
             asked.name = "LSTAT"
 
 
-class moved_link_leads_from_before(Walks):
+class moved_link_leads_from_before(Asks):
     """A relative link that RENAME put into another directory leads from where it was."""
 
     def __init__(self):
@@ -310,7 +314,7 @@ class moved_link_leads_from_before(Walks):
             asked.fields[0] = self.moved[clean(asked.fields[0])]
 
 
-class emptied_link_is_replaced(Walks):
+class emptied_link_is_replaced(Asks):
     """OPEN with TRUNC of a link to a file puts a new file in the place of the link."""
 
     def ask(self, asked):
@@ -388,6 +392,8 @@ class long_lines_parted(Writes):
 
 class latin_letters_lost(Reads):
     """In DATA that is text, letters that are not UTF-8 are question marks."""
+
+
 
     def shown(self, _asked, _offset, data):
         plain = bytes(byte for byte in data if byte < 128)

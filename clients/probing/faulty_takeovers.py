@@ -4,12 +4,23 @@ import posixpath
 
 import sftp3
 from probing.faulty import (
-    LOOKS, MOVES, Fault, Listings, Meets, Refuses, Statuses, clean, is_below, is_path, paths_of, with_attributes,
-    with_data)
-from probing.faulty_places import After, KnownAbsent, beside
-from probing.faulty_served import DIRECTORY, FILE, LINK, Walks
+    DIRECTORY, FILE, LINK, LOOKS, MOVES, Asks, Fault, Listings, Meets, Refuses, Statuses, clean, is_below, is_path,
+    paths_of, with_attributes, with_data)
+from probing.faulty_places import KnownAbsent, beside
 from probing.faulty_stores import Made
 from sftp3 import CREAT, EXCL, READ, TRUNC, WRITE
+
+
+class After(Asks):
+    """Does more after a request, once the server has it."""
+
+    def requests(self, packets):
+        for packet in packets:
+            yield from super().requests([packet])
+            self.after(self.asked[int.from_bytes(packet[5:9], "big")])
+
+    def after(self, asked):
+        """What it does after this request."""
 
 
 def is_of_one_place(asked):
@@ -17,7 +28,7 @@ def is_of_one_place(asked):
     return clean(asked.fields[0]) == clean(asked.fields[1])
 
 
-class rename_of_link_replaces(Walks):
+class rename_of_link_replaces(Asks):
     """RENAME of a link replaces a file or a link at the new place."""
 
     OLD, NEW = LINK, (FILE, LINK)
@@ -34,7 +45,7 @@ class rename_of_directory_replaces(rename_of_link_replaces):
     OLD, NEW = DIRECTORY, (DIRECTORY,)
 
 
-class rename_goes_inside(Walks):
+class rename_goes_inside(Asks):
     """RENAME of a directory to the place of another directory puts it into that, as `mv` does."""
 
     def alter(self, asked):
@@ -43,7 +54,7 @@ class rename_goes_inside(Walks):
             asked.fields[1] = clean(asked.fields[1]) + b"/" + posixpath.basename(clean(asked.fields[0]))
 
 
-class rename_to_itself_done(Walks):
+class rename_to_itself_done(Asks):
     """RENAME of something to its own place is told done."""
 
     def alter(self, asked):
@@ -51,7 +62,7 @@ class rename_to_itself_done(Walks):
             asked.name = "POSIX-RENAME"
 
 
-class rename_makes_parents(Walks):
+class rename_makes_parents(Asks):
     """RENAME makes the directories that its new path lacks."""
 
     NAME = "RENAME"
@@ -113,7 +124,7 @@ class further_names_do_not_count(Overlooks):
         return path in self.further
 
 
-class moved_out_still_counts(Refuses, Walks):
+class moved_out_still_counts(Refuses, Asks):
     """RMDIR of a directory fails once RENAME took a directory out of it."""
 
     NAME, KINDS = "RENAME", (DIRECTORY,)
