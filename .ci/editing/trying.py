@@ -18,7 +18,8 @@ from editing.hashes import hash_now, hash_of
 
 COMMANDS = Commands()
 # The crates whose promises a user relies on most come first; the others follow, lowest first.
-FIRST = ["sftp_audit", "sftp_server", "sftp_handles", "sftp_tree", "sftp_packets", "sftp_codec", "sftp_wire"]
+FIRST = ["sftp_audit", "sftp_server", "sftp_handles", "sftp_tree", "sftp_strings", "sftp_packets", "sftp_codec",
+         "sftp_wire"]
 
 
 def edits_of(crates: Crates, name: str) -> list[Edit]:

@@ -123,7 +123,8 @@ def try_places(steps, room):
     folder, tree, bad = room.folder, room.tree, room.bad
     file = folder / "file"
     file.write_bytes(b"")
-    said = b"sftpv3: cannot keep a copy of /dev/stdin, which cannot be read twice\nsftpv3: reason: %s\n"
+    said = (b"sftpv3: cannot keep a copy of /dev/stdin, which cannot be read twice, in TMPDIR or /tmp\n"
+            b"sftpv3: reason: %s\n")
     for place, reason in ((folder / "none", b"No such file or directory (os error 2)"),
                           (file, b"Not a directory (os error 20)")):
         for words in (["audit", "--explain", "--tree", "/dev/stdin", "--transcript", bad],

@@ -33,7 +33,7 @@ pub use Rattle.sftp_tree.specs.Picture.{IsStart, blank}
 unfoldable pub use Rattle.sftp_tree.specs.Picture.{picture}
 pub use Rattle.sftp_tree.specs.Tree.{Tree, raised}
 pub use Rattle.sftp_packets.specs.Spelling.{no_attributes}
-unfoldable pub use Rattle.sftp_packets.specs.Hexadecimal.{hex}
+unfoldable pub use Rattle.sftp_strings.specs.Hexadecimal.{hex}
 pub use mathlib.Core.Bool.{or_assoc}
 pub use Rattle.sftp_audit.specs.Audit.{request_count, RefusedAt, RefusedAtEnd, FaultAt, IsFirstFaultBy, IsTreeError}
 pub use Rattle.sftp_audit.specs.Audit.{IsPlain, IsNew, IsNoJudgement, WasFed, StopsFeed, IsToldOf, is_request}

@@ -3,7 +3,7 @@ use Rattle.std.specs.Prelude.{ℕ, List, [], ◌∷◌, ◌++◌, codes, true, N
 use Rattle.sftp_packets.specs.declared.requests.Ask.TheVariants.{Mkdir, Limits}
 use Rattle.sftp_packets.specs.declared.replies.Answer.TheVariants.{Extended}
 use Rattle.sftp_packets.specs.declared.attributes.Attrs.{Attrs}
-use Rattle.sftp_packets.specs.Hexadecimal.{hex}
+use Rattle.sftp_strings.specs.Hexadecimal.{hex}
 use Rattle.sftp_packets.specs.Spelling.{no_attributes}
 use Rattle.sftp_transcript.specs.declared.events.Event.{Event}
 use Rattle.sftp_transcript.specs.declared.events.Event.TheVariants.{Asked, Replied}

@@ -1,5 +1,5 @@
-//! The packets of `sftp_packets` as bytes (draft-ietf-secsh-filexfer-02, sections 3 to 8): how each is measured, written,
-//! and read field by field.
+//! The packets of `sftp_packets` as bytes (draft-ietf-secsh-filexfer-02, sections 3 to 8): how each is measured,
+//! written, and read field by field.
 #![tactic(auto)]
 
 mod fields;

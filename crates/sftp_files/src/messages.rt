@@ -25,6 +25,9 @@ pub const STANDARD_OUTPUT: &str = "standard output";
 /// What the parser of the command line adds to a message about bad usage.
 pub const MORE: &str = "\nFor more information, try '--help'.\n";
 
+/// The system's number for a directory in the place of a file.
+pub(crate) const IS_A_DIRECTORY: i32 = 21;
+
 /// The outcome of a run that did what was asked, or that has said itself why it did not.
 #[derive(Clone, Copy)]
 pub enum Ending {
@@ -100,7 +103,9 @@ impl Failure<'_> {
             Failure::TreeOf(_, fault) => write!(f, ": {fault}"),
             Failure::Transcript(fault) => write!(f, "{fault}"),
             Failure::Text(text) => f.write_str(text.as_str()),
-            Failure::CannotCopy(..) => f.write_str(", which cannot be read twice"),
+            Failure::CannotCopy(..) => f.write_str(
+                ", which cannot be read twice, in TMPDIR or /tmp",
+            ),
             Failure::Unfit(_, reason) => write!(f, ": {reason}"),
             Failure::OverLimit(_) => f.write_str(" needs more than '--memory' allows"),
             _ => Ok(()),
@@ -292,6 +297,13 @@ pub fn report<E: Write>(errors: &mut E, failure: &Failure<'_>) {
 /// Writes what the system says of a failure, if that is known, and that a file is unchanged.
 fn report_details<E: Write>(errors: &mut E, failure: &Failure<'_>) -> io::Result<()> {
     match failure {
+        Failure::CannotRead(_, Some(IS_A_DIRECTORY)) => {
+            put_reason(
+                errors,
+                IS_A_DIRECTORY,
+                "; sftpv3-tree makes a tree file of a folder",
+            )
+        }
         Failure::CannotRead(_, Some(code)) => put_reason(errors, *code, ""),
         Failure::CannotWrite(_, Some(code)) => put_reason(errors, *code, ""),
         Failure::CannotCopy(_, Some(code)) => put_reason(errors, *code, ""),

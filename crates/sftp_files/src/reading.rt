@@ -3,7 +3,7 @@ ghost use Rattle.std.specs.Prelude.{◌≡◌, IfErr};
 ghost use Rattle.sftp_files.specs.Failures.{IsUnread};
 ghost use Rattle.sftp_files.specs.Failures.{failure_status};
 
-use crate::messages::Failure;
+use crate::messages::{Failure, IS_A_DIRECTORY};
 use std::fs::Files;
 use std::io::Read;
 use std::{fs, io};
@@ -29,9 +29,6 @@ pub fn open_at<'a, R: Files>(rt: &R, path: &str, name: &'a str) -> Result<R::Fil
         Err(error) => Err(Failure::reading(name, &error)),
     }
 }
-
-/// The system's number for a directory in the place of a file.
-const IS_A_DIRECTORY: i32 = 21;
 
 /// Opens what is at this path to read it. A directory, which the system would open, cannot be read.
 fn opened<R: Files>(rt: &R, path: &str) -> io::Result<R::File> {

@@ -7,7 +7,7 @@ ghost use Rattle.sftp_packets.specs.declared.requests.Ask.TheVariants.{Open, Clo
 ghost use Rattle.sftp_packets.specs.declared.requests.Ask.TheVariants.{Readdir, Remove, Fsync, Limits, Unknown};
 ghost use Rattle.sftp_packets.specs.declared.replies.Answer.TheVariants.{Data, Handle, Name, Attrs, Extended};
 ghost use Rattle.sftp_packets.specs.Spelling.{no_attributes};
-ghost use Rattle.sftp_packets.specs.Hexadecimal.{hex};
+ghost use Rattle.sftp_strings.specs.Hexadecimal.{hex};
 ghost use Rattle.sftp_tree.specs.Tree.{raised};
 ghost use Rattle.sftp_tree.specs.Picture.{blank};
 ghost use Rattle.sftp_tree.specs.WalkExamples.{letters};

@@ -107,14 +107,32 @@ fn add_name(text: &mut Vec<u8>, name: &[u8]) -> Result<(), NoMemory> {
 impl World {
     /// REALPATH told where a path leads.
     pub(crate) fn take_real(&mut self, path: &[u8], text: &[u8]) -> Result<(), Stop> {
+        if self.tells_nothing(path, text)? {
+            return Ok(());
+        }
         let found = self.reach(path, true)?;
         let told = self.take_place(path, text, &found);
         drop(found);
         told
     }
 
+    /// Whether this text tells nothing: a server of the profile need not look at the tree, and tells any text of a path
+    /// that goes on from what is no directory.
+    fn tells_nothing(&self, path: &[u8], text: &[u8]) -> Result<bool, NoMemory> {
+        if self.settings.is_strict {
+            return Ok(false);
+        }
+        if self.is_absolute(path, text)? {
+            return Ok(true);
+        }
+        let found = self.look(path, true)?;
+        let is_blocked = matches!(found.look, Look::NotDir(_));
+        drop(found);
+        Ok(is_blocked)
+    }
+
     fn take_place(&mut self, path: &[u8], text: &[u8], found: &Found<'_>) -> Result<(), Stop> {
-        if self.may_be_told(path, text, found.look)? {
+        if self.may_be_told(found.look) {
             return Ok(());
         }
         let place = self.place(found.parent, found.name(), false)?;
@@ -130,16 +148,10 @@ impl World {
         self.clash_at_place(place, told, text)
     }
 
-    /// Whether a server of the profile may have told this text of a path that leads to another place: it need not look
-    /// at the tree, and tells any text of a path that leads to no place.
-    fn may_be_told(&self, path: &[u8], text: &[u8], look: Look) -> Result<bool, NoMemory> {
-        if self.settings.is_strict {
-            return Ok(false);
-        }
-        match look {
-            Look::Entry(_) | Look::Unknown | Look::Nothing(_) => self.is_absolute(path, text),
-            _ => Ok(true),
-        }
+    /// Whether a server of the profile may tell any text of a path that leads there: to no place.
+    fn may_be_told(&self, look: Look) -> bool {
+        let is_place = matches!(look, Look::Entry(_) | Look::Unknown | Look::Nothing(_));
+        !self.settings.is_strict && !is_place
     }
 
     /// Whether a text is that of a path, made absolute without a look at the tree.

@@ -310,7 +310,7 @@ fn put_end<E: Write>(search: &Search<'_>, errors: &mut E) {
 fn put_hint<E: Write>(first: u64, last: u64, errors: &mut E) {
     let _ = write_flushed(
         errors,
-        format_args!("To look closer: sftpv3 show --full --records {first}-{last} FILE\n"),
+        format_args!("To look closer: sftpv3 show --json --records {first}-{last} FILE\n"),
     );
 }
 

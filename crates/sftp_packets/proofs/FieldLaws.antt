@@ -16,8 +16,8 @@ use Rattle.sftp_packets.specs.Reading.{◌>>=◌, number_at, uint32_at, uint64_a
 use Rattle.sftp_packets.specs.Reading.{rest_at, two_uint32_at, pair_at, Reader, many_at, pairs_at, counted_pairs_at}
 use Rattle.sftp_packets.specs.Reading.{has_flag, are_known, optional_at, attribute_fields_at, attributes_at}
 use Rattle.sftp_packets.specs.Reading.{name_item_at, names_at}
-use Rattle.sftp_packets.proofs.Bytes.{IsBytes-take, IsBytes-drop, AreBytes-from_places, IsWide, wide32}
-use Rattle.sftp_packets.proofs.Bytes.{wide64, Is32, Is64}
+use Rattle.sftp_strings.proofs.Bytes.{IsBytes-take, IsBytes-drop, AreBytes-from_places, IsWide, wide32}
+use Rattle.sftp_strings.proofs.Bytes.{wide64, Is32, Is64}
 use Rattle.sftp_packets.proofs.Readers.{bind_ok, guard_ok, ok_is, Takes, Takes-then, guard_held}
 use Rattle.sftp_packets.proofs.Readers.{TakesAs, AgainAs, two_takes, two_again, many_takes, many_again}
 use Rattle.sftp_packets.proofs.Readers.{up_to_end_takes, up_to_end_again, optional_takes, optional_again}

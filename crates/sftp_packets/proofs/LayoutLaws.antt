@@ -15,7 +15,7 @@ use Rattle.sftp_packets.specs.Packets.{contents, side_of, hides_extension, FitsF
 use Rattle.std.proofs.lemmas.Bool.{ltb-true, and_parts, or_parts, cases_Bool, true≢false}
 use Rattle.std.proofs.lemmas.List.{take_at}
 use Rattle.sftp_packets.specs.declared.packets.Side.TheVariants.{Client, Server}
-use Rattle.sftp_packets.proofs.Bytes.{wide32}
+use Rattle.sftp_strings.proofs.Bytes.{wide32}
 use Rattle.sftp_packets.proofs.PacketLaws.{ends_last}
 use Rattle.std.specs.List.{AllByRecursion, list_all, list_any, starts_with}
 use Rattle.std.proofs.lemmas.Slice.Eq.{bytes_eq-Decides, starts_is}

@@ -25,7 +25,7 @@ use Rattle.sftp_packets.specs.declared.errors.Fault.{Fault}
 use Rattle.sftp_packets.specs.declared.packets.Side.TheVariants.{Client, Server}
 use Rattle.sftp_packets.specs.Reading.{Reader, refuse, two, uint32_at, pairs_at, one, string_at, handle_at}
 use Rattle.sftp_packets.specs.Reading.{◌>>=◌, rest_at, three, uint64_at, attributes_at, names_at, pair_at}
-use Rattle.sftp_packets.proofs.Bytes.{Is32, IsBytes, IsBytes-rest}
+use Rattle.sftp_strings.proofs.Bytes.{Is32, IsBytes, IsBytes-rest}
 use Rattle.sftp_packets.proofs.Readers.{TakesAs, two_takes, two_again, one_takes, one_again, Takes-none}
 use Rattle.sftp_packets.proofs.Readers.{three_takes, three_again}
 use Rattle.sftp_packets.proofs.FieldLaws.{uint32_takes, uint32_again, FitsHandle, as_bytes, string_takes}

@@ -4,7 +4,7 @@ use Rattle.std.proofs.Common.{append_assoc, zero, suc, ◌<◌, ◌≤◌, ◌�
 use Rattle.std.proofs.Common.{◌+◌}
 use Rattle.sftp_packets.specs.declared.errors.Fault.{Fault}
 use Rattle.sftp_packets.specs.Reading.{◌>>=◌, Reader, one, two, three, optional_at, many_at, up_to_end, Reads}
-use Rattle.sftp_packets.proofs.Bytes.{IsBytes}
+use Rattle.sftp_strings.proofs.Bytes.{IsBytes}
 use Rattle.std.specs.Prelude.{IfSome, is_some}
 use Rattle.std.specs.List.{flat_map, AllByRecursion}
 use Rattle.std.proofs.lemmas.List.{length-append}

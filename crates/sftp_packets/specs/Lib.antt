@@ -3,4 +3,3 @@ pub mod Reading
 pub mod Requests
 pub mod Packets
 pub mod Layouts
-pub mod Hexadecimal

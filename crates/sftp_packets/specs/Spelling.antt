@@ -1,24 +1,12 @@
 -- How the fields of packets are spelled in bytes (draft-ietf-secsh-filexfer-02, sections 3 to 8).
 use Rattle.std.specs.Prelude.{ℕ, ◌+◌, ◌^◌, ◌<◌, List, [], ◌∷◌, ◌++◌, length}
 use Rattle.std.specs.Prelude.{Option, Some, None, IfSome}
-use Rattle.std.specs.Int.{w32, w64, to_be_bytes}
 use Rattle.std.specs.List.{flat_map, AllByRecursion}
+pub use Rattle.sftp_strings.specs.Strings.{uint32, uint64, string, AreBytes}
 use Rattle.sftp_packets.specs.declared.attributes.Attrs.{Attrs}
 use Rattle.sftp_packets.specs.declared.names.NameItem.{NameItem}
 
 -- ---- fields (draft, section 3)
-
--- a number of four bytes, the most significant first
-abbrev pub uint32 : ℕ → List ℕ
-uint32 n = to_be_bytes w32 n
-
--- a number of eight bytes, the most significant first
-abbrev pub uint64 : ℕ → List ℕ
-uint64 n = to_be_bytes w64 n
-
--- the number of bytes, and then the bytes
-abbrev pub string : List ℕ → List ℕ
-string bytes = uint32 (length bytes) ++ bytes
 
 -- two numbers, one after the other
 abbrev pub two_uint32 : ℕ × ℕ → List ℕ
@@ -149,10 +137,6 @@ abbrev pub with_id : ℕ → ℕ × List ℕ → List ℕ
 with_id id parts = parts.0 ∷ uint32 id ++ parts.1
 
 -- ---- which fields have an encoding
-
--- each number is a byte
-abbrev pub AreBytes : List ℕ → Type 0
-AreBytes bytes = AllByRecursion (λ b. b < 256) bytes
 
 -- a string whose length fits its field
 pub record FitsString (bytes : List ℕ) : Type 0 where

@@ -1,7 +1,7 @@
 //! File attributes (draft, section 5).
 ghost use Rattle.std.specs.Prelude.{⊤, [], ◌∷◌, codes};
 
-use crate::strings::Pairs;
+use crate::pairs::Pairs;
 use bitflags::{Flag, Flags, bitflag_items};
 
 /// The attributes of a file. A field that is `None` is absent.

@@ -2,7 +2,7 @@
 ghost use Rattle.std.specs.Prelude.{◌≡◌};
 
 use crate::attributes::Attrs;
-use crate::strings::ByteString;
+use sftp_strings::ByteString;
 use std::marker::Model;
 
 /// One name of a NAME reply.

@@ -5,9 +5,9 @@ ghost use Rattle.std.specs.Option.{IsSomeAnd};
 ghost use Rattle.sftp_packets.specs.Spelling.{handle_limit};
 ghost use Rattle.sftp_packets.specs.Packets.{may_get, handle_of, hides_extension};
 
+use crate::pairs::Pairs;
 use crate::replies::{Answer, STATUS, answered_handle, answered_type};
 use crate::requests::{Ask, asked_handle, asks_known, reply_type};
-use crate::strings::Pairs;
 
 /// The most bytes of a whole packet, its length field included. This profile's own.
 pub const PACKET_LIMIT: usize = 262_144;

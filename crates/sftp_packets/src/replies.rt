@@ -6,7 +6,7 @@ use crate::attributes::Attrs;
 use crate::layouts::{Layout, first_packet, plain};
 use crate::names::Names;
 use crate::packets::VERSION;
-use crate::strings::ByteString;
+use sftp_strings::ByteString;
 
 // The types of replies (draft, section 3).
 pub const STATUS: u8 = 101;

@@ -1,6 +1,6 @@
 //! The requests (draft, sections 6 and 8; OpenSSH's PROTOCOL, section 4): the type of each, its fields, its handle, the
-//! type of its reply, and its layout; and the names of extensions. `sftp_codec` reads them and `requests/copying.rt` copies
-//! them, both by the table here (`with_requests!`).
+//! type of its reply, and its layout; and the names of extensions. `sftp_codec` reads them and `requests/copying.rt`
+//! copies them, both by the table here (`with_requests!`).
 ghost use Rattle.std.specs.Prelude.{◌≡◌, bytes_eq, option_copied};
 ghost use Rattle.std.specs.List.{list_any};
 ghost use Rattle.sftp_packets.specs.Requests.{ask_row, ask_parts, asked_handle, is_known_extension, asks_known};
@@ -10,7 +10,7 @@ use crate::attributes::Attrs;
 use crate::layouts::{Layout, extension, first_packet, plain};
 use crate::packets::INIT;
 use crate::replies::{ATTRS, DATA, EXTENDED_REPLY, HANDLE, NAME, STATUS};
-use crate::strings::ByteString;
+use sftp_strings::ByteString;
 
 mod copying;
 

@@ -73,7 +73,7 @@ pub use Rattle.sftp_tree.specs.Tree.{Tree}
 pub use Rattle.sftp_wire.proofs.StreamLaws.{length-spelling, none-leaves_room, front_again, spellings-apart}
 pub use Rattle.sftp_wire.specs.Examples.{version_bytes}
 pub use Rattle.sftp_packets.specs.Spelling.{no_attributes}
-unfoldable pub use Rattle.sftp_packets.specs.Hexadecimal.{hex}
+unfoldable pub use Rattle.sftp_strings.specs.Hexadecimal.{hex}
 pub use Rattle.sftp_wire.specs.Fronts.{place_after}
 pub use Rattle.sftp_wire.specs.Fronts.{StandsInFront}
 unfoldable pub use Rattle.sftp_wire.specs.Fronts.{front_of}

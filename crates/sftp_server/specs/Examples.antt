@@ -2,7 +2,7 @@
 use Rattle.std.specs.Prelude.{ℕ, List, [], ◌∷◌, ◌++◌, codes, Some}
 use Rattle.sftp_packets.specs.declared.attributes.Attrs.{Attrs}
 use Rattle.sftp_packets.specs.declared.requests.Ask.TheVariants.{Mkdir, Rmdir}
-use Rattle.sftp_packets.specs.Hexadecimal.{hex}
+use Rattle.sftp_strings.specs.Hexadecimal.{hex}
 use Rattle.sftp_packets.specs.Spelling.{no_attributes}
 use Rattle.sftp_wire.specs.Examples.{version_bytes}
 use Rattle.sftp_tree.specs.Picture.{blank}

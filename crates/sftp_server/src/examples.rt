@@ -2,7 +2,7 @@
 //! `run_script` and `serve` name. The functions do nothing; each promise is in the contract.
 ghost use Rattle.std.specs.Prelude.{◌≡◌, ℕ, ◌∷◌, ◌++◌, [], codes, length};
 ghost use Rattle.sftp_wire.specs.Examples.{version_bytes};
-ghost use Rattle.sftp_packets.specs.Hexadecimal.{hex};
+ghost use Rattle.sftp_strings.specs.Hexadecimal.{hex};
 ghost use Rattle.sftp_handles.specs.State.{started};
 ghost use Rattle.sftp_transcript.specs.Examples.{handshake_bytes};
 ghost use Rattle.sftp_transcript.specs.Explained.{window};

@@ -9,7 +9,7 @@ use Rattle.std.proofs.lemmas.List.{append-nil, length-take, take-append-drop}
 use Rattle.std.proofs.lemmas.List.Folds.{list_all-append}
 use Rattle.std.proofs.lemmas.Option.{option_and_then_some}
 use Rattle.sftp_packets.specs.Spelling.{AreBytes}
-use Rattle.sftp_packets.proofs.Bytes.{IsBytes-take, IsBytes-from_all, IsWide, wide32}
+use Rattle.sftp_strings.proofs.Bytes.{IsBytes-take, IsBytes-from_all, IsWide, wide32}
 use Rattle.sftp_text.specs.Formats.{Format, Counted, after, nothing, ◌then◌, strip, word, mark}
 use Rattle.sftp_text.specs.Formats.{front_number, front_uint32, numbered, ahead}
 use Rattle.sftp_text.specs.Lines.{is_printable}

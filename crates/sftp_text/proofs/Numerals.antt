@@ -12,7 +12,7 @@ use Rattle.std.proofs.lemmas.Fmt.{digits_is_IsNumeral, decimal_is_IsNumeral}
 use Rattle.std.proofs.lemmas.Option.{option_and_then_some}
 use Rattle.std.proofs.lemmas.Str.{digit_value_digit}
 use Rattle.std.proofs.lemmas.Str.Parse.{digit_from_value}
-use Rattle.sftp_packets.proofs.Bytes.{wide32, wide64}
+use Rattle.sftp_strings.proofs.Bytes.{wide32, wide64}
 use Rattle.sftp_text.specs.Formats.{front_number}
 use Rattle.sftp_text.specs.Digits.{is_digit, digits_from, number_in, decimal_in, octal_text, octal_in, flags_text, flags_from, flags_in, flag_names, with_flag, is_letter}
 use Rattle.sftp_text.specs.Digits.{four_bytes, eight_bytes, number, long, octal, flags}

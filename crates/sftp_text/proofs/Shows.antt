@@ -10,7 +10,7 @@ use Rattle.sftp_packets.specs.declared.attributes.Attrs.{Attrs as WireAttrs}
 use Rattle.sftp_packets.specs.declared.names.NameItem.{NameItem}
 use Rattle.sftp_packets.specs.Spelling as wire
 use Rattle.sftp_packets.specs.Reading.{has_flag, are_known}
-use Rattle.sftp_packets.proofs.Bytes.{IsWide, wide32, wide64}
+use Rattle.sftp_strings.proofs.Bytes.{IsWide, wide32, wide64}
 use Rattle.sftp_packets.proofs.FieldLaws.{attribute_flags-say, attribute_flags-known}
 use Rattle.sftp_text.specs.Formats.{Step, Format, Counted, stay, after, ◌then◌, word, mark, strip, front_number, front_uint32, ahead, if_found}
 use Rattle.sftp_text.specs.Formats.{show_each, show_list, listed, repeat}

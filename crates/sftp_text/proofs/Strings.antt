@@ -8,7 +8,7 @@ use Rattle.std.proofs.lemmas.Bool.{cond-true, cond-false, cases_Bool, and_parts,
 use Rattle.std.proofs.lemmas.Option.{option_and_then_some}
 use Rattle.std.proofs.lemmas.List.{append-nil, length-take, take-append-drop}
 use Rattle.sftp_packets.specs.Spelling.{AreBytes}
-use Rattle.sftp_packets.proofs.Bytes.{wide64}
+use Rattle.sftp_strings.proofs.Bytes.{wide64}
 use Rattle.sftp_text.specs.Formats.{begins_with, front_number}
 use Rattle.sftp_text.specs.Digits.{hex_digit, hex_value, hex_byte, hex_text, byte_of, hex_onto, is_plain, byte_text, quoted}
 use Rattle.sftp_text.specs.Digits.{Place, Effect, effect_of, with_effect, unquoted, text_in, rest_text, counted_text, string_text, long_string_text, or_refuse}

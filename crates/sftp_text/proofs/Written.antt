@@ -10,7 +10,7 @@ use Rattle.sftp_packets.specs.declared.packets.Side.{Side}
 use Rattle.sftp_packets.specs.declared.packets.Side.TheVariants.{Client, Server}
 use Rattle.sftp_packets.specs.Spelling.{AreBytes}
 use Rattle.sftp_packets.specs.Layouts.{Shape, layout_of_bytes}
-use Rattle.sftp_packets.proofs.Bytes.{wide32}
+use Rattle.sftp_strings.proofs.Bytes.{wide32}
 use Rattle.sftp_text.specs.Formats.{front_uint32, if_found}
 use Rattle.sftp_text.specs.Fields.{packet_text, layout_of_text}
 use Rattle.sftp_text.specs.Lines.{is_printable, whole, digits_text, raw_text, digits_read, raw_read, side_letter}

@@ -13,7 +13,7 @@ pub use Rattle.std.proofs.lemmas.Result.{err_from_is_err_and, IfOk-weaker, IfErr
 pub use Rattle.std.specs.Int.{w32, from_be_bytes}
 pub use Rattle.std.specs.Io.KnownBytes.{IsAtEnd, Keeps, prepend_known}
 pub use Rattle.std.specs.List.{flat_map, AllByRecursion, list_any}
-pub use Rattle.sftp_packets.proofs.Bytes.{wide32}
+pub use Rattle.sftp_strings.proofs.Bytes.{wide32}
 unfoldable pub use Rattle.sftp_wire.specs.Fronts.{front_of}
 pub use Rattle.sftp_packets.specs.declared.errors.Fault.{Fault}
 pub use Rattle.sftp_packets.specs.declared.packets.Packet.{Packet}

@@ -5,7 +5,7 @@ use Rattle.sftp_packets.specs.declared.names.NameItem.{NameItem}
 use Rattle.sftp_packets.specs.declared.requests.Ask.TheVariants.{Opendir, Mkdir, Rmdir, Stat, Lstat, Realpath, Readlink}
 use Rattle.sftp_packets.specs.declared.requests.Ask.TheVariants.{Symlink, Open, Read, Close}
 use Rattle.sftp_packets.specs.declared.replies.Answer.TheVariants.{Status, Handle, Data, Name, Attrs as attributes}
-use Rattle.sftp_packets.specs.Hexadecimal.{hex}
+use Rattle.sftp_strings.specs.Hexadecimal.{hex}
 use Rattle.sftp_packets.specs.Spelling.{no_attributes}
 use Rattle.sftp_wire.specs.Examples.{version_bytes}
 use Rattle.sftp_transcript.specs.declared.events.Event.{Event}

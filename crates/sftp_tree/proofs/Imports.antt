@@ -76,7 +76,7 @@ pub use Rattle.sftp_treefile.specs.declared.files.Owner.{Owner}
 pub use Rattle.sftp_treefile.specs.declared.files.Row.{Row}
 pub use Rattle.sftp_treefile.specs.declared.files.TreeFile.{TreeFile}
 pub use Rattle.sftp_treefile.specs.declared.limits.TreeLimits.{TreeLimits}
-unfoldable pub use Rattle.sftp_packets.specs.Hexadecimal.{hex}
+unfoldable pub use Rattle.sftp_strings.specs.Hexadecimal.{hex}
 pub use Rattle.sftp_packets.specs.Spelling.{AreBytes}
 pub use Rattle.sftp_packets.specs.declared.attributes.Attrs.{Attrs}
 pub use Rattle.sftp_packets.specs.declared.requests.Ask.{Ask}

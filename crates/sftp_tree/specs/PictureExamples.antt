@@ -1,6 +1,6 @@
 -- Trees and their tree files, worked out by hand.
 use Rattle.std.specs.Prelude.{ℕ, List, [], ◌∷◌, codes}
-use Rattle.sftp_packets.specs.Hexadecimal.{hex}
+use Rattle.sftp_strings.specs.Hexadecimal.{hex}
 use Rattle.sftp_treefile.specs.declared.files.Owner.{Owner}
 use Rattle.sftp_treefile.specs.TreeFile.{usual_limits}
 use Rattle.sftp_tree.specs.declared.nodes.Node.TheVariants.{Dir, File, Link}

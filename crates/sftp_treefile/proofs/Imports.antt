@@ -9,9 +9,9 @@ pub use Rattle.std.proofs.lemmas.List.{append-nil, length-append, nil_from_lengt
 pub use Rattle.std.proofs.lemmas.Result.{err_from_is_err_and}
 pub use Rattle.std.specs.List.{flat_map}
 pub use Rattle.std.specs.Prelude.{◌↔◌, IsTrue, nat_eq, nat_lt, nat_le, map, max, not, ◌==◌}
-pub use Rattle.sftp_packets.specs.Spelling.{string, uint32, uint64}
+pub use Rattle.sftp_strings.specs.Strings.{string, uint32, uint64}
 unfoldable pub use Rattle.sftp_path.specs.Place.{components, is_good_path, parts}
-unfoldable pub use Rattle.sftp_packets.specs.Hexadecimal.{hex}
+unfoldable pub use Rattle.sftp_strings.specs.Hexadecimal.{hex}
 pub use Rattle.sftp_treefile.specs.TreeFile.{usual_limits, highest_limits, least_limits, most_limits, AreLimits}
 pub use Rattle.sftp_treefile.specs.TreeFile.{AreBetween, all_bytes}
 unfoldable pub use Rattle.sftp_treefile.specs.TreeFile.{are_own, are_far}

@@ -9,7 +9,7 @@ use Rattle.sftp_treefile.specs.declared.times.Times.{Times}
 use Rattle.std.specs.List.{flat_map, list_all, list_any, slice_get, AllByRecursion}
 use Rattle.std.specs.Cmp.Lexicographic.{pointwise}
 use Rattle.std.specs.declared.cmp.Ordering.TheVariants.{Less}
-use Rattle.sftp_packets.specs.Spelling.{uint32, uint64, string}
+use Rattle.sftp_strings.specs.Strings.{uint32, uint64, string}
 use Rattle.sftp_path.specs.Place.{Place, place_cmp, parent, are_names, absolute, components, is_good_path, depth_limit}
 use Rattle.sftp_treefile.specs.declared.errors.TreeError.{TreeError}
 use Rattle.sftp_treefile.specs.declared.errors.TreeError.TheVariants.{NoMemory}

@@ -3,7 +3,7 @@ use Rattle.std.specs.Prelude.{◌≡◌, ℕ, ◌+◌, ◌<◌, ◌≤◌, ◌^�
 use Rattle.std.specs.Prelude.{◌-◌, length, min, take, IsTrue}
 use Rattle.std.specs.List.{flat_map, AllByRecursion}
 use Rattle.std.specs.declared.cmp.Ordering.TheVariants.{Less}
-use Rattle.sftp_packets.specs.Spelling.{uint32, string}
+use Rattle.sftp_strings.specs.Strings.{uint32, string}
 use Rattle.sftp_path.specs.Place.{Place, place_cmp, parent}
 use Rattle.sftp_treefile.specs.declared.errors.TreeError.{TreeError}
 use Rattle.sftp_treefile.specs.declared.errors.TreeError.TheVariants.{Magic, Short, Trailing, Value, Order, Parent}

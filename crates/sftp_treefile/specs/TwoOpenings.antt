@@ -1,7 +1,7 @@
 -- Tree files with the first and the second opening, as if there were no third: what they may say, and their bytes.
 use Rattle.std.specs.Prelude.{◌≡◌, ℕ, ◌≤◌, ◌<◌, ◌^◌, Bool, true, false, List, [], ◌∷◌, ◌++◌, length, codes}
 use Rattle.std.specs.List.{flat_map}
-use Rattle.sftp_packets.specs.Spelling.{uint32, string}
+use Rattle.sftp_strings.specs.Strings.{uint32, string}
 use Rattle.sftp_treefile.specs.declared.files.Kind.{Kind}
 use Rattle.sftp_treefile.specs.declared.files.Kind.TheVariants.{Dir, First, Further, Link}
 use Rattle.sftp_treefile.specs.declared.files.Owner.{Owner}

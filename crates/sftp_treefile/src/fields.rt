@@ -2,7 +2,7 @@
 //! bytes after it.
 ghost use Rattle.std.specs.Prelude.{◌≡◌, ◌<◌, ◌++◌, ℕ, Bool, List, true, false, [], ◌∷◌, length};
 ghost use Rattle.std.specs.Prelude.{IfOk, IfErr, IfSome, IfNone, IsTrue};
-ghost use Rattle.sftp_packets.specs.Spelling.{uint32, uint64, string};
+ghost use Rattle.sftp_strings.specs.Strings.{uint32, uint64, string};
 ghost use Rattle.sftp_treefile.specs.TreeFile.{place_of, owner_text, are_bytes, times_text, length_text, timed_text};
 ghost use Rattle.sftp_treefile.specs.TreeFile.{is_first_row, entry_at, IsPlaceText, IsOwner, letter_for};
 ghost use Rattle.sftp_treefile.specs.TreeFile as spec;
@@ -17,8 +17,8 @@ use crate::files::{Kind, Owner, Row};
 use crate::limits::TreeLimits;
 use crate::times::{NO_TIMES, Times};
 use byteorder::{BigEndian, ByteOrder};
-use sftp_packets::{ByteString, take_number, take_string};
 use sftp_path::{DEPTH_LIMIT, Place, good_path, place_of_text};
+use sftp_strings::{ByteString, take_number, take_string};
 use std::alloc::{AllocError, Global};
 
 /// All the bits of permissions.

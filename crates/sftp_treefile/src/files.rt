@@ -4,7 +4,7 @@ ghost use Rattle.sftp_treefile.specs.TreeFile as spec;
 
 use crate::limits::{Opening, TreeLimits};
 use crate::times::{EntryTimes, any_known};
-use sftp_packets::ByteString;
+use sftp_strings::ByteString;
 use std::marker::Model;
 
 /// Who owns an entry, and what may be done with it.

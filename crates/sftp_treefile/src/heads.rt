@@ -1,6 +1,6 @@
 //! The heads of tree files: what they say before their entries.
 ghost use Rattle.std.specs.Prelude.{◌≡◌, ◌++◌, ℕ, false, List, IfOk, IfErr};
-ghost use Rattle.sftp_packets.specs.Spelling.{uint32, uint64, string};
+ghost use Rattle.sftp_strings.specs.Strings.{uint32, uint64, string};
 ghost use Rattle.sftp_treefile.specs.declared.limits.Opening.{Opening as kind_of_opening};
 ghost use Rattle.sftp_treefile.specs.declared.limits.Opening.TheVariants.{Raised, Wide};
 ghost use Rattle.sftp_treefile.specs.TreeFile.{IsBetween, AreLimits, is_wide};
@@ -17,7 +17,7 @@ use crate::limits::{
     most_limits, usual_limits,
 };
 use crate::times::{NO_TIMES, Times};
-use sftp_packets::ByteString;
+use sftp_strings::ByteString;
 use std::alloc::Global;
 
 /// The head of a tree file: what it says before its entries.

@@ -4,7 +4,7 @@ use crate::files::{Kind, Row, TreeFile};
 use crate::limits::Opening;
 use crate::times::Times;
 use crate::writing::is_long;
-use sftp_packets::ByteString;
+use sftp_strings::ByteString;
 
 /// The opening, the uid, the gid, the count, and the owner of the root.
 const HEAD: usize = 32;

@@ -3,7 +3,7 @@ ghost use Rattle.std.specs.Prelude.{◌≡◌, ◌+◌, ◌<◌, ◌≤◌, ℕ,
 ghost use Rattle.std.specs.Prelude.{IfOk, IfErr, IfSome, IfNone, OnOk, IsTrue};
 ghost use Rattle.std.specs.Prelude.{false};
 ghost use Rattle.std.specs.Vec.{vec_capacity};
-ghost use Rattle.sftp_packets.specs.Spelling.{uint32, string};
+ghost use Rattle.sftp_strings.specs.Strings.{uint32, string};
 ghost use Rattle.sftp_treefile.specs.TreeFile.{place_of, timed_text, are_bytes, letter_for, file_letter};
 ghost use Rattle.sftp_treefile.specs.TreeFileParts.{Reads, ReadsNone, IsAt, Follows, IsLast, IsHead, IsKnownIn};
 ghost use Rattle.sftp_treefile.specs.TreeFileParts.{head_bytes, IsTimedKind};
@@ -19,9 +19,9 @@ use crate::heads::{Head, head_at};
 use crate::input::{Input, WINDOW};
 use crate::limits::TreeLimits;
 use crate::times::Times;
-use sftp_packets::{ByteString, take_number};
 use sftp_path::Place;
 use sftp_streams::Source;
+use sftp_strings::{ByteString, take_number};
 use std::alloc::{AllocError, Global};
 
 /// The bytes of an opening, after which the home's length is.

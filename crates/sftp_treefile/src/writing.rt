@@ -2,7 +2,7 @@
 //! is the absolute text of a place, that entries come in the order of their places, that permissions have twelve bits,
 //! and that a further name has the number of a first name.
 ghost use Rattle.std.specs.Prelude.{◌≡◌, ◌++◌, ◌<◌, ◌^◌, length, OnOk};
-ghost use Rattle.sftp_packets.specs.Spelling.{uint32, uint64, string};
+ghost use Rattle.sftp_strings.specs.Strings.{uint32, uint64, string};
 ghost use Rattle.sftp_treefile.specs.declared.files.Kind.TheVariants.{Dir, First, Further, Link};
 ghost use Rattle.sftp_treefile.specs.declared.limits.Opening.TheVariants.{Raised, Wide};
 ghost use Rattle.sftp_treefile.specs.TreeFile as spec;

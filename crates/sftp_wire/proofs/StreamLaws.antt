@@ -18,8 +18,8 @@ use Rattle.sftp_packets.specs.Spelling.{uint32, packet_limit, AreBytes}
 use Rattle.sftp_packets.specs.Packets.{contents, spelling, side_of, HasSpelling, packet_of}
 use Rattle.sftp_packets.specs.Reading.{◌>>=◌}
 use Rattle.sftp_wire.specs.Fronts.{IsReading, StandsInFront, front_of}
-use Rattle.sftp_packets.proofs.Bytes.{IsBytes, IsBytes-take, IsBytes-drop, wide32, IsBytes-append}
-use Rattle.sftp_packets.proofs.Bytes.{IsBytes-from_all}
+use Rattle.sftp_strings.proofs.Bytes.{IsBytes, IsBytes-take, IsBytes-drop, wide32, IsBytes-append}
+use Rattle.sftp_strings.proofs.Bytes.{IsBytes-from_all}
 use Rattle.sftp_packets.proofs.Readers.{bind_ok, guard_ok, ok_is}
 use Rattle.sftp_packets.proofs.PacketLaws.{contents-parts}
 use Rattle.sftp_packets.proofs.PacketLaws.{packet_of_takes, packet_of_again, server_packets_refused}

@@ -7,7 +7,7 @@ use Rattle.sftp_packets.specs.declared.packets.Packet.TheVariants.{Request, Repl
 use Rattle.sftp_packets.specs.declared.packets.Side.{Side}
 use Rattle.sftp_packets.specs.declared.packets.Side.TheVariants.{Client, Server}
 use Rattle.sftp_packets.specs.Packets.{spelling}
-use Rattle.sftp_packets.specs.Hexadecimal.{hex}
+use Rattle.sftp_strings.specs.Hexadecimal.{hex}
 use Rattle.sftp_wire.specs.Fronts.{front_of}
 
 -- all of the bytes are read as the packet, and the packet is spelled as the bytes

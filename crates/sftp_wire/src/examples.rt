@@ -6,7 +6,7 @@ ghost use Rattle.std.specs.Prelude.{◌≡◌, true, [], ◌∷◌, codes};
 ghost use Rattle.sftp_packets.specs.Requests.{server_extensions};
 ghost use Rattle.sftp_packets.specs.Packets.{hides_extension};
 ghost use Rattle.sftp_packets.specs.Spelling.{no_attributes};
-ghost use Rattle.sftp_packets.specs.Hexadecimal.{hex};
+ghost use Rattle.sftp_strings.specs.Hexadecimal.{hex};
 ghost use Rattle.sftp_wire.specs.Fronts.{front_of};
 ghost use Rattle.sftp_wire.specs.Examples.{IsRow, IsAsked, IsAnswered, version_bytes};
 

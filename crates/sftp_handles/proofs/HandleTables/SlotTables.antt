@@ -15,7 +15,7 @@ use Rattle.byteorder.specs.Endian.{big_number}
 use Rattle.byteorder.specs.Numbers.{big_from-take, big_number-reads_back}
 use Rattle.slab.specs.Slab.{Slab, get, with_value, Updates, entries_from, entries, slab_len}
 use Rattle.slab.proofs.SlabLemmas.{length-entries, Updates-with_value}
-use Rattle.sftp_packets.proofs.Bytes.{IsBytes, IsBytes-take, IsBytes-drop, big_number-four}
+use Rattle.sftp_strings.proofs.Bytes.{IsBytes, IsBytes-take, IsBytes-drop, big_number-four}
 use Rattle.sftp_handles.specs.declared.slots.Slot.{Slot}
 use Rattle.sftp_handles.specs.Slots.{named_slot, IsNameAt, IsNewest, IsNumbered}
 use Rattle.sftp_handles.proofs.TotalSteps.{bytes-joined, number-bytes}

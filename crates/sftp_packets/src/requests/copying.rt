@@ -9,8 +9,8 @@ ghost use Rattle.sftp_packets.specs.Spelling.{AreBytes, FitsTwo};
 
 use crate::attributes::Attrs;
 use crate::requests::Ask;
-use crate::strings::ByteString;
 use crate::with_requests;
+use sftp_strings::ByteString;
 use std::alloc::AllocError;
 
 impl Clone for Attrs {

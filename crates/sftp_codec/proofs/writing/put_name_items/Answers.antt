@@ -1,6 +1,6 @@
 use Rattle.std.proofs.Common.{rules}
 use Rattle.sftp_packets.specs.Layouts.{Extends}
-use Rattle.sftp_packets.proofs.Bytes.{Extends-after}
+use Rattle.sftp_codec.proofs.Appended.{Extends-after}
 use Rattle.sftp_codec.proofs.writing.put_name_items.Goals as goal
 
 pub returns-in_err-put_name_item-clause-err : goal.returns-in_err-put_name_item-clause-err

@@ -1,6 +1,6 @@
 -- Two numbers are written as one of eight bytes.
 use Rattle.std.proofs.Common.{List, ℕ, ◌++◌, ◌∙◌, ap, arith}
-use Rattle.sftp_packets.proofs.Bytes.{two_as_one}
+use Rattle.sftp_strings.proofs.Bytes.{two_as_one}
 use Rattle.sftp_codec.proofs.writing.put_two.Goals as goal
 
 pub returns-clause-ok : goal.returns-clause-ok

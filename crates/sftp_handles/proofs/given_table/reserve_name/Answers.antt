@@ -1,5 +1,5 @@
 use Rattle.sftp_handles.proofs.Imports.{◌∙◌, sym, ap, subst, arith, is_some, open_at, handles_in, AreBytes}
-use Rattle.sftp_packets.proofs.Bytes.{AreBytes-from_places}
+use Rattle.sftp_strings.proofs.Bytes.{AreBytes-from_places}
 use Rattle.sftp_handles.proofs.HandleTables.{open-found, not-open}
 use Rattle.sftp_handles.proofs.given_table.reserve_name.Goals as goal
 

@@ -3,8 +3,8 @@ use Rattle.std.proofs.Common.{◌≡◌, ℕ, List, ◌++◌, take, drop, sym, �
 use Rattle.std.specs.Int.{w64, from_be_bytes}
 use Rattle.std.proofs.lemmas.List.{take-append-drop, length-take}
 use Rattle.byteorder.specs.Endian.{big_number}
-use Rattle.sftp_packets.specs.Spelling.{uint64}
-use Rattle.sftp_packets.proofs.Bytes.{IsBytes-take, wide64}
+use Rattle.sftp_strings.specs.Strings.{uint64}
+use Rattle.sftp_strings.proofs.Bytes.{IsBytes-take, wide64}
 use Rattle.sftp_treefile.proofs.fields.take_long_number.Goals as goal
 
 big_number-eight : (bytes : List ℕ) → big_number 8 bytes ≡ from_be_bytes w64 bytes

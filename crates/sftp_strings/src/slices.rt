@@ -1,6 +1,6 @@
 //! Numbers and strings in front of a slice (draft, section 3).
 ghost use Rattle.std.specs.Prelude.{◌≡◌, List, ℕ, ◌++◌, ◌<◌, ◌≤◌, ◌^◌, length, IfSome, IfNone};
-ghost use Rattle.sftp_packets.specs.Spelling.{uint32, string};
+ghost use Rattle.sftp_strings.specs.Strings.{uint32, string};
 
 use byteorder::{BigEndian, ByteOrder};
 

@@ -1,13 +1,12 @@
--- Bytes, numbers of several bytes, and bytes that are appended.
+-- Bytes, and numbers of several bytes.
 use Rattle.std.proofs.Common.{◌≡◌, ℕ, zero, suc, ◌+◌, ◌*◌, ◌^◌, ◌<◌, List, [], ◌∷◌, ◌++◌, length, get_or, take, drop, refl}
-use Rattle.std.proofs.Common.{sym, ap, ◌∙◌, arith, inl, inr, append_assoc}
+use Rattle.std.proofs.Common.{sym, ap, ◌∙◌, arith, inl, inr}
 use Rattle.std.specs.Int.{Width, w32, w64, byte_len, from_be_bytes, to_be_bytes}
 use Rattle.std.proofs.lemmas.Bool.{cases_lt}
 use Rattle.std.proofs.lemmas.List.{length-take, get_or-drop, get_or-take, get_or_past}
 use Rattle.std.proofs.lemmas.Nat.{be_bytes_4, be_bytes_8, from_be_bytes-to_be_bytes_4, from_be_bytes-to_be_bytes_8}
 use Rattle.byteorder.specs.Endian.{big_number}
-use Rattle.sftp_packets.specs.Spelling.{uint32, uint64, AreBytes}
-use Rattle.sftp_packets.specs.Layouts.{Extends}
+use Rattle.sftp_strings.specs.Strings.{uint32, uint64, AreBytes}
 
 -- ==== Numbers of four and of eight bytes, written and read.
 
@@ -95,12 +94,3 @@ two_as_one high low fits_high fits_low =
 -- `byteorder` and std read a number alike
 pub big_number-four : (bytes : List ℕ) → big_number 4 bytes ≡ from_be_bytes w32 bytes
 big_number-four bytes = omega arith
-
--- ==== Bytes that are appended piece by piece.
-
--- bytes appended to bytes that were appended
-pub Extends-after : (old mid new word : List ℕ) → mid ≡ old ++ word → Extends mid new → Extends old new
-Extends-after old mid new word is more = record {
-  tail = word ++ more.tail;
-  parts = more.parts ∙ ap (λ (x : List ℕ). x ++ more.tail) is ∙ append_assoc old word more.tail;
-}

@@ -3,8 +3,8 @@ use Rattle.std.proofs.Common.{◌≡◌, ℕ, List, take, drop, ◌∙◌, ap, a
 use Rattle.std.specs.Int.{w32, from_be_bytes}
 use Rattle.std.proofs.lemmas.List.{take-append-drop, length-take}
 use Rattle.byteorder.specs.Endian.{big_number}
-use Rattle.sftp_packets.proofs.Bytes.{IsBytes-take, uint32-front, big_number-four}
-use Rattle.sftp_packets.proofs.slices.take_number.Goals as goal
+use Rattle.sftp_strings.proofs.Bytes.{IsBytes-take, uint32-front, big_number-four}
+use Rattle.sftp_strings.proofs.slices.take_number.Goals as goal
 
 pub returns-clause-found : goal.returns-clause-found
 returns-clause-found c =
