@@ -16,9 +16,14 @@ READERS = (["ruff", "check", "--quiet", "--isolated", "--no-cache", "--select", 
 NO_SCRIPTS = (".antt", ".edit", ".rt")
 
 
+def first_line(name: str) -> bytes:
+    with (TOP / name).open("rb") as file:
+        return file.readline(80)
+
+
 def scripts(names: list[str], kind: str) -> list[str]:
     """Returns the scripts whose first line names an interpreter of this kind, and for Python its modules."""
-    heads = {it: (TOP / it).open("rb").readline(80) for it in names if not it.endswith(NO_SCRIPTS)}
+    heads = {it: first_line(it) for it in names if not it.endswith(NO_SCRIPTS)}
     is_script = re.compile(rb"#!.*\b" + kind.encode() + rb"[0-9.]*( -IS?)?\s*$")
     return [it for it, head in heads.items() if is_script.match(head) or kind == "python" and it.endswith(".py")]
 
