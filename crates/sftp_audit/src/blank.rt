@@ -18,7 +18,7 @@ const BLANK: [u8; 37] = [
 /// # Errors
 ///
 /// `NoMemory` if memory runs out.
-#[tactic(auto, unfolding(sftp_tree::specs::Picture::picture, sftp_treefile::specs::TreeFile::spelled, sftp_treefile::specs::TreeFile::spelled_after, sftp_treefile::specs::TreeFile::are_own, sftp_treefile::specs::TreeFile::are_far, sftp_path::specs::Table::get, sftp_packets::specs::Hexadecimal::hex))]
+#[tactic(auto, unfolding(sftp_tree::specs::Picture::picture, sftp_treefile::specs::TreeFile::spelled, sftp_treefile::specs::TreeFile::spelled_after, sftp_treefile::specs::TreeFile::are_own, sftp_treefile::specs::TreeFile::are_far, sftp_path::specs::Table::get, sftp_strings::specs::Hexadecimal::hex))]
 pub fn blank_tree(alloc: Global) -> Result<Vec<u8>, NoMemory>
     ensures bytes { IfOk result (λ v. v.items ≡ blank_bytes) }
     ensures picture { IfOk result (λ v. v.items ≡ picture blank) }
