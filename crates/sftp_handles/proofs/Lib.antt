@@ -1,4 +1,5 @@
 pub mod Imports
+pub mod Lanes
 pub mod Good
 pub mod Judged
 pub mod HandleTables
