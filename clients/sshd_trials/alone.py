@@ -8,7 +8,7 @@ from pathlib import Path
 from sshd_trials import page
 from sshd_trials.clients import OPTIONS, Where, run
 from sshd_trials.days import CONFIG, reload
-from trials.processes import wait_until
+from trials.processes import SOON, wait_until
 from trials.sessions import Client
 
 # The type of the reply that has a handle, and what OPEN is asked for: to read and to write.
@@ -33,7 +33,8 @@ def is_reached(user, room):
         with subprocess.Popen(words, stdin=subprocess.DEVNULL) as ssh:
             wait_until(lambda: near.exists() or ssh.poll() is not None)
             client.connect(str(near))
-            found = bool(select.select([listener], [], [], 2)[0])
+            # where sshd refuses, ssh closes what came to the near one
+            found = listener in select.select([listener, client], [], [], SOON)[0]
             ssh.terminate()
     for it in (far, near):
         it.unlink()
