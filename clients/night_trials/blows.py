@@ -1,5 +1,6 @@
-"""Runs of clients/nightly that are killed before each step on files that they do: the next run goes on as if nothing
-had happened. And recorders that are killed before each thing that they write: the night blames nobody for it."""
+"""Runs of clients/nightly that are killed before each step on files that they do, or in which one such step fails: the
+next run goes on as if nothing had happened. And recorders that are killed before each thing that they write: the night
+blames nobody for it."""
 import shutil
 import signal
 import subprocess
@@ -12,16 +13,16 @@ from trials.processes import executable
 # How many runs are tried at once.
 AT_ONCE = 4
 
-# Code that changes a run: it is killed before one of its steps on files. A file that is opened to be written is one
-# without bytes before the next step.
-KILLED = """
-import builtins, signal
+# Code that changes a run: something happens before one of its steps on files. A file that is opened to be written is
+# one without bytes before the next step.
+STRUCK = """
+import builtins, errno, signal
 left = {number}
 def step_on():
     global left
     left -= 1
     if left == 0:
-        os.kill(os.getpid(), signal.SIGKILL)
+        {blow}
 def counted(step):
     def call(*words, **how):
         step_on()
@@ -59,40 +60,48 @@ class Copied:
                 for kind in ("accepted", "refused", "unjudged") if (folder / kind).is_dir()}
 
 
-def kill_at(place, number, kept):
-    """Kills a run at this step. Returns whether it came to that step, and what is wrong after the next run."""
+# What happens to a run, and what is said of it.
+KILL = "os.kill(os.getpid(), signal.SIGKILL)", "killed at"
+FAIL = 'raise OSError(errno.EIO, "a fault of the disk")', "with a fault of the disk at"
+
+
+def strike_at(place, blow, number, kept):
+    """Has this happen to a run at this step. Returns whether it came to that step, and what is wrong after the next
+    run."""
     copied = Copied(place, number)
     try:
-        status, first = copied.run(script=changed(copied, KILLED.format(number=number)))
-        if status != -signal.SIGKILL:
+        status, first = copied.run(script=changed(copied, STRUCK.format(number=number, blow=blow)))
+        if status != -signal.SIGKILL and "a fault of the disk" not in first:
             return False, ""
+        if "the verdict cannot be kept" in first:
+            kept = {kind: [it for it in names if not it.endswith(".verdict")] for kind, names in kept.items()}
         status, said = copied.run()
         left = {it.name for it in (copied.state / USER).iterdir()}
         ends = status == 0 and ENDS_WELL in said if len(kept) == 1 else status in (0, 1)
-        is_well = ends and copied.kept() == kept and not list(copied.records.iterdir()) and "Traceback" not in said \
-            and left == {"compared", "tree", *kept}
+        is_well = ends and copied.kept() == kept and not list(copied.records.iterdir()) and "Traceback" not in first + \
+            said and left == {"compared", "tree", *kept}
         return True, "" if is_well else f"step {number}: {copied.kept()}, {left}, {first}, {status}: {said}"
     finally:
         shutil.rmtree(copied.room)
 
 
-def kill_at_each(kill):
-    """Kills what this starts at each of its steps in turn, until it ends before the step. Returns how many steps there
-    are, and what is wrong after them."""
+def strike_at_each(strike):
+    """Strikes what this starts at each of its steps in turn, until it ends before the step. Returns how many steps
+    there are, and what is wrong after them."""
     wrong, count, goes_on = [], 0, True
     with ThreadPoolExecutor(AT_ONCE) as pool:
         while goes_on:
-            found = list(pool.map(kill, range(count + 1, count + 1 + AT_ONCE)))
-            goes_on = all(was_killed for was_killed, _ in found)
-            count += sum(was_killed for was_killed, _ in found)
+            found = list(pool.map(strike, range(count + 1, count + 1 + AT_ONCE)))
+            goes_on = all(was_struck for was_struck, _ in found)
+            count += sum(was_struck for was_struck, _ in found)
             wrong += [why for _, why in found if why]
     return count, wrong
 
 
-def kill_nights(steps, place, name, kept):
-    """Kills a run at each of its steps on files."""
-    count, wrong = kill_at_each(lambda number: kill_at(place, number, kept))
-    steps.check(f"{name}: a run killed at each of {count} steps on files loses nothing and judges nothing twice",
+def strike_nights(steps, place, name, kept, blow, how):
+    """Strikes a run at each of its steps on files."""
+    count, wrong = strike_at_each(lambda number: strike_at(place, blow, number, kept))
+    steps.check(f"{name}: a run {how} each of {count} steps on files loses nothing and judges nothing twice",
                 count > 20 and not wrong, f"{len(wrong)} wrong: {wrong[:3]}")
 
 
@@ -100,18 +109,20 @@ def killed_when_accepting(steps, place):
     """Two sessions of which the second needs what the first one made, and one in which nothing was asked."""
     place.begin("mkdir d", "mkdir d/e")
     subprocess.run([str(it) for it in place.words], stdin=subprocess.DEVNULL, check=False)
-    kill_nights(steps, place, "accepted sessions", {"accepted": sorted(it.name for it in place.records.iterdir())})
+    kept = {"accepted": sorted(it.name for it in place.records.iterdir())}
+    strike_nights(steps, place, "accepted sessions", kept, *KILL)
 
 
-def killed_when_refusing(steps, place):
+def struck_when_refusing(steps, place):
     """A session that is accepted, one that is refused, and one that is not judged."""
     place.begin("mkdir d")
     (place.live / "late").write_text("x")
     place.session(f"get late {place.room}/late")
     place.session("mkdir e")
     first, second, third = sorted(it.name for it in place.records.iterdir())
-    kill_nights(steps, place, "a refused session", {"accepted": [first], "refused": [second, f"{second}.verdict"],
-                                                    "unjudged": [third]})
+    kept = {"accepted": [first], "refused": [second, f"{second}.verdict"], "unjudged": [third]}
+    for blow in (KILL, FAIL):
+        strike_nights(steps, place, "a refused session", kept, *blow)
 
 
 # A recorder that is killed before one of the calls by which it writes records, and passes packets on.
@@ -154,9 +165,9 @@ def kill_recorder_at(place, number):
 
 
 def killed_recorders(steps, place):
-    count, wrong = kill_at_each(lambda number: kill_recorder_at(place, number))
+    count, wrong = strike_at_each(lambda number: kill_recorder_at(place, number))
     steps.check(f"a recorder killed at each of {count} calls: the night refuses nothing, and blames no other",
                 count > 20 and not wrong, f"{len(wrong)} wrong: {wrong[:3]}")
 
 
-TRIALS = (killed_when_accepting, killed_when_refusing, killed_recorders)
+TRIALS = (killed_when_accepting, struck_when_refusing, killed_recorders)

@@ -16,7 +16,8 @@ def usage(steps, place):
     (place.live / "large").write_bytes(bytes(1000))
     place.check(steps, "files of more than a third of --memory: status 3", 3, "a third of --memory", words=["--memory",
                                                                                                      "2000"])
-    for words in (["--wrong"], ["--umask", "999"], ["--explain"], ["--json"], ["--profile", "posix", "--tree", "x"]):
+    for words in (["--wrong"], ["--umask", "999"], ["--explain"], ["--json"], ["--progress"], ["--help"], ["-h"],
+                  ["--profile", "posix", "--tree", "x"]):
         place.check(steps, f"{' '.join(words)}, which the audit does not take: status 2 before anything is made", 2,
                     "nightly: behind --: ", words[-2] if words[-1] == "x" else words[0], words=["--", *words])
     steps.check("and nothing is made", not (place.state / USER / "tree").exists())

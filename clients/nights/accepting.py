@@ -3,8 +3,8 @@ tree before it is gone: both or none of it, wherever a run is ended. All happens
 which is where the run is."""
 import json
 import os
-from contextlib import suppress
-from typing import List, Optional, Sequence
+from contextlib import contextmanager, suppress
+from typing import Iterator, List, Optional, Sequence
 
 from nights.records import NEW, Copy, Record, Spool, sync
 
@@ -59,10 +59,11 @@ def put_verdict(place: str) -> None:
 def accept(copy: Copy, after: str, tree: str) -> None:
     """Keeps a record, and makes its last tree the one of the next."""
     place = copy.place_in("accepted")
-    note(copy.record, place)
-    os.replace(after, NEXT)
-    sync(".")
-    keep(copy, place, tree)
+    with whole(tree):
+        note(copy.record, place)
+        os.replace(after, NEXT)
+        sync(".")
+        copy.keep(place)
     os.replace(NEXT, tree)
     os.remove(WHICH)
 
@@ -70,8 +71,9 @@ def accept(copy: Copy, after: str, tree: str) -> None:
 def pass_over(copy: Copy, tree: str, kind: str = "accepted") -> None:
     """Keeps a record in which nothing was asked: the next starts from the same tree."""
     place = copy.place_in(kind)
-    note(copy.record, place)
-    keep(copy, place, tree)
+    with whole(tree):
+        note(copy.record, place)
+        copy.keep(place)
     tidy()
 
 
@@ -79,19 +81,23 @@ def put_aside(copy: Copy, kind: str, tree: str) -> None:
     """Keeps a record that is not accepted, with the verdict that was noted: what comes behind it has no tree to start
     from."""
     place = copy.place_in(kind)
-    note(copy.record, place)
-    with suppress(FileNotFoundError):
-        os.replace(tree, LAST)
-        sync(".")
-    keep(copy, place, tree)
+    with whole(tree):
+        note(copy.record, place)
+        with suppress(FileNotFoundError):
+            os.replace(tree, LAST)
+            sync(".")
+        copy.keep(place)
     put_verdict(place)
     tidy()
 
 
-def keep(copy: Copy, place: str, tree: str) -> None:
-    """Gives the copy its name. If that fails, nothing has happened; what fails behind it, the next run finishes."""
+@contextmanager
+def whole(tree: str) -> Iterator[None]:
+    """A block that notes which record is kept, and gives the copy its name. If it fails before that, nothing has
+    happened: else the next run would take the record for one that is kept. What fails behind it, the next run
+    finishes."""
     try:
-        copy.keep(place)
+        yield
     except BaseException:
         if os.path.exists(NEW):
             go_back(tree)

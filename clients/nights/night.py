@@ -31,6 +31,8 @@ LEFT = ("tree.after", "tree.now", ".sftpv3-", NEW)
 LOOKS = 3
 # How many times records are looked for, of which each time nights.records.MOST are taken, before the rest has to wait.
 BATCHES = 10
+# Options by which an audit prints something else, or something before its verdict.
+UNREAD = ("--json", "--progress", "--help", "-h")
 # How many sessions before and behind one are looked at, and how many named, that ran at the same time.
 NEAR, NAMED = 200, 5
 
@@ -63,8 +65,9 @@ class WrongOption(Exception):
 
 def try_options(program_file, options):
     """Raises WrongOption before anything is made by them. The program reads its options first; there are no files."""
-    if "--json" in options:
-        raise WrongOption("--json: a night reads the lines that an audit prints for people")
+    for name in UNREAD:
+        if name in options:
+            raise WrongOption(f"{name}: a night reads nothing but the verdict that an audit prints for people")
     words = [program_file, "audit", *options, "--explain"]
     for name in ("--tree", "--transcript", "--out"):
         words += [name, os.path.join(os.devnull, "none")]

@@ -1,5 +1,5 @@
 """An account with SFTP alone, by the lines of docs/OPERATORS.md: through sshd its user reaches no socket of the machine
-and makes no file that other programs look for in a home."""
+and makes no file that other programs look for in a home, and no systemd of the user's runs what a client writes."""
 import select
 import socket
 import subprocess
@@ -8,7 +8,7 @@ from pathlib import Path
 from sshd_trials import page
 from sshd_trials.clients import OPTIONS, Where, run
 from sshd_trials.days import CONFIG, reload
-from trials.processes import wait_until
+from trials.processes import SOON, wait_until
 from trials.sessions import Client
 
 # The type of the reply that has a handle, and what OPEN is asked for: to read and to write.
@@ -33,7 +33,8 @@ def is_reached(user, room):
         with subprocess.Popen(words, stdin=subprocess.DEVNULL) as ssh:
             wait_until(lambda: near.exists() or ssh.poll() is not None)
             client.connect(str(near))
-            found = bool(select.select([listener], [], [], 2)[0])
+            # where sshd refuses, ssh closes what came to the near one
+            found = listener in select.select([listener, client], [], [], SOON)[0]
             ssh.terminate()
     for it in (far, near):
         it.unlink()
@@ -72,3 +73,37 @@ def try_account(steps, room):
                 ran.stdout.count("ermission denied") == 3 and (where.real / "files/large").exists(), ran.stdout)
     CONFIG.write_text(before)
     reload()
+
+
+# What systemd needs for sessions by sshd, and that of a user for each of them.
+STARTED = """
+ssh-keygen -q -t ed25519 -N '' -f /root/key
+rm -f /etc/ssh/sshd_not_to_be_run
+systemctl start dbus.socket systemd-logind systemd-user-sessions ssh
+"""
+# What the systemd of w does at its end, by a file that w can write.
+AT_END = "[Service]\nExecStart=\nExecStart=/usr/bin/touch /home/w/by-systemd\n"
+
+
+def is_run(room):
+    """Whether the systemd of w runs what a client of w writes. It ends some seconds after the session; here at once."""
+    made = Path("/home/w/by-systemd")
+    (room / "at-end.conf").write_text(AT_END)
+    number = run(["id", "-u", "w"]).stdout.strip()
+    units = f"/run/user/{number}/systemd/user"
+    ran = Where("w", "/home/w", "/home/w", room).batch(f"-mkdir {units}", f"-mkdir {units}/systemd-exit.service.d",
+                                                       f"-put at-end.conf {units}/systemd-exit.service.d/")
+    run(["systemctl", "stop", f"user@{number}.service"])
+    found = made.exists()
+    made.unlink(missing_ok=True)
+    return found, ran
+
+
+def try_systemd(steps, room):
+    """By the page's line an account has no systemd. It needs the real one."""
+    room.mkdir()
+    ran = run(["sh", "-e", "-c", STARTED + MADE])
+    (was_run, _), (status, said) = is_run(room), page.run(page.for_user(page.lines_of("mask"), "w", "/home/w"))
+    is_still, last = is_run(room)
+    steps.check("SFTP alone: no systemd of the user runs what a client writes, as it did before", was_run and
+                status == 0 and last.returncode == 0 and not is_still, f"{was_run} {is_still} {ran} {said} {last}")

@@ -18,6 +18,7 @@ from record_trials.steps import TOP
 from sshd_trials import page
 from sshd_trials.clients import EDITORS, OPTIONS, run
 from sshd_trials.page import is_accepted
+from trials.processes import SOON, wait_until
 
 # How many requests a clone of the repository below takes at least: that of the day had 35,197.
 LEAST_OF_CLONE = 30_000
@@ -199,14 +200,20 @@ LOG = Path("/var/lib/sftp-live/u/log")
 LIES = Path("/opt/lies")
 
 
+def logged():
+    """The lines of the log."""
+    return LOG.read_text().splitlines() if LOG.exists() else []
+
+
 def said(count):
-    """What the log says, as soon as it has so many lines."""
-    for _ in range(50):
-        lines = LOG.read_text().splitlines() if LOG.exists() else []
-        if len(lines) >= count:
-            break
-        time.sleep(0.1)
-    return lines
+    """The same, as soon as there are so many."""
+    wait_until(lambda: len(logged()) >= count, pause=0.1)
+    return logged()
+
+
+def until_logged(text):
+    """A command of sftp's shell that waits until the log has this text."""
+    return f"!timeout {SOON // 2} sh -c 'until grep -q \"{text}\" {LOG}; do sleep 0.1; done'"
 
 
 def reload():
@@ -240,11 +247,11 @@ def try_live(steps, where):
     steps.check("live: the next is, from where it ended", len(lines) == 2 and "audit: accepted " in lines[1],
                 str(lines))
     serve_lies("")
-    ran = where.batch("get live back", "!sleep 2", "!cat /var/lib/sftp-live/u/log", "ls")
+    ran = where.batch("get live back", until_logged("refused record"), f"!cat {LOG}", "ls")
     steps.check("live: a wrong byte is said while the session runs", "NotAllowed" in ran.stdout and ran.returncode == 0,
                 ran.stdout)
     serve_lies("--stop")
-    ran = where.batch("get live back", "!sleep 2", "ls", "ls")
+    ran = where.batch("get live back", until_logged("the session is cut"), "ls", "ls")
     steps.check("live: --stop cuts the session there", ran.returncode != 0 and
                 any("the session is cut" in it for it in said(4)), ran.stdout)
 

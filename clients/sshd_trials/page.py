@@ -20,7 +20,7 @@ def lines_of(name, page=PAGE):
 
 def for_user(text, user, folder):
     """The lines of the page, which has `u` and `/home/u`, for another user."""
-    return re.sub(r"(?<=[\s:])u(?=[\s:])", user, text.replace("/home/u", folder)).replace(" u ", f" {user} ")
+    return re.sub(r"(?<=[\s:])u(?=[\s:)])", user, text.replace("/home/u", folder)).replace(" u ", f" {user} ")
 
 
 def run(text, **options):
