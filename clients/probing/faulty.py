@@ -604,7 +604,7 @@ class Spelled(Paths):
         return name
 
 
-# What makes faults: each maker is named like the method that its faults override, and whose parameters they may take.
+# What makes faults: each maker is named like the method that its faults override.
 alter = fault("alter", Fault)
 ask = fault("ask", Fault)
 answer = fault("answer", Fault)

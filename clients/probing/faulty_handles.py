@@ -29,7 +29,7 @@ failed_listings_leak = failed_opens_leak.but("OPENDIR fails behind 60 that faile
 write_256_lost = write_lost_by_count.but("The 256th WRITE through a handle is lost.", COUNT=256)
 write_128_lost = write_lost_by_count.but("The 128th WRITE through a handle is lost.", COUNT=128)
 read_256_wrong = shown("The 256th READ through a handle gives bytes of 0.",
-                       lambda self, asked, data: bytes(len(data)) if self.count_through(asked) == 256 else data)
+                       lambda self, asked, offset, data: bytes(len(data)) if self.count_through(asked) == 256 else data)
 
 
 class failed_write_stays(Refuses, failing=set):
@@ -66,4 +66,5 @@ def same_size_empties(self, asked):
 
 permissions_at_limit = set_to(
     "SETSTAT of permissions leaves the file's own if they are those of no one (0).",
-    lambda given: given if given["permissions"] & 0o7777 else without(given, "permissions"), WHAT="permissions")
+    lambda self, asked, given: given if given["permissions"] & 0o7777 else without(given, "permissions"),
+    WHAT="permissions")

@@ -202,7 +202,7 @@ def rename_to_further_name_done(self, asked):
 
 temporary_unlisted = listed_name(
     "A listing lacks names of what programs make for a while: those that end in `~`, `.tmp` or `.filepart`.",
-    lambda name: None if name.endswith((b"~", b".tmp", b".filepart")) and len(name) > 1 else name)
+    lambda self, name: None if name.endswith((b"~", b".tmp", b".filepart")) and len(name) > 1 else name)
 
 
 class full_page_fails(Listings):
@@ -230,14 +230,16 @@ def exe_is_found(self, asked):
 
 
 entities_decoded = spelled("`&amp;` and `&lt;` in a name are `&` and `<`, as in XML.",
-                           lambda name: name.replace(b"&lt;", b"<").replace(b"&amp;", b"&"))
+                           lambda self, name: name.replace(b"&lt;", b"<").replace(b"&amp;", b"&"))
 set_of_kind_fails = refuses(
     "SETSTAT of permissions that say that it is a directory (040000) fails.",
-    lambda asked: asked.name == "SETSTAT" and asked.fields[1].get("permissions", 0) & KIND == DIRECTORY)
-owner_of_zero_lost = set_to("SETSTAT and FSETSTAT of the user and the group 0 leave the owner as it is.",
-                            lambda given: given if any(given["owner"]) else without(given, "owner"), WHAT="owner")
+    lambda self, asked: asked.name == "SETSTAT" and asked.fields[1].get("permissions", 0) & KIND == DIRECTORY)
+owner_of_zero_lost = set_to(
+    "SETSTAT and FSETSTAT of the user and the group 0 leave the owner as it is.",
+    lambda self, asked, given: given if any(given["owner"]) else without(given, "owner"), WHAT="owner")
 set_of_all_lacks_permissions = set_to(
-    "SETSTAT and FSETSTAT of size, owner, permissions and times together leave out the permissions.", lambda given:
+    "SETSTAT and FSETSTAT of size, owner, permissions and times together leave out the permissions.",
+    lambda self, asked, given:
     without(given, "permissions") if {"size", "owner", "permissions", "times"} <= given.keys() else given)
 
 
