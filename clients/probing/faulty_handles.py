@@ -1,6 +1,6 @@
 """Faults of servers in handles, in counts, in what follows a refused request, and in what a request sets."""
 import sftp3
-from probing.faulty import FAR, Asks, Refuses, alter, code_of, fault, set_to, sets_size, shown, without
+from probing.faulty import FAR, Refuses, alter, ask_now, code_of, set_to, sets_size, shown, without
 from probing.faulty_writes import write_lost_by_count
 
 
@@ -55,7 +55,7 @@ def read_goes_on_behind_write(self, asked):
         self.ends[number] = offset + count
 
 
-@fault("ask", Asks)
+@ask_now
 def same_size_empties(self, asked):
     """SETSTAT and FSETSTAT of the size that a file has make all its bytes 0."""
     if sets_size(asked) and asked.fields[1]["size"]:

@@ -5,12 +5,9 @@ import posixpath
 import sftp3
 from probing.faulty import (
     DIRECTORY, END, FAILED, FAR, FILE, KIND, LINK, LOOKS, OK_STATUS, Asks, Fault, Listings, Makes, Refuses, Settings,
-    Targets, answer, ask, clean, code, code_of, fault, flagged, leads_to, listed_name, opens, refused, refuses, set_to,
-    sets, shown, status, target, top_of, with_names)
+    Targets, after, alter_now, answer, ask, ask_now, clean, code, code_of, flagged, leads_to, listed_name, opens,
+    refused, refuses, set_to, sets, shown, status, target, top_of, with_names)
 from sftp3 import APPEND, CREAT, EXCL, READ, WRITE
-
-# Faults that look at links, or at what is open, before a request is done.
-alter_now, ask_now = fault("alter", Asks), fault("ask", Asks)
 
 
 class listed_link_is_its_aim(Asks, Listings, aims=dict):
@@ -134,16 +131,11 @@ def further_name_replaces(self, asked):
         return [self.another("REMOVE", asked.fields[1]), asked]
 
 
-class further_name_of_open_is_copy(Asks):
+@after
+def further_name_of_open_is_copy(self, asked):
     """HARDLINK of a file that is open to be written makes a copy."""
-
-    def requests(self, packets):
-        for packet in packets:
-            asked = sftp3.decode(packet)
-            copies = asked.name == "HARDLINK" and any(opens(it, WRITE) for it in self.openers_at(asked.fields[0]))
-            yield from super().requests([packet])
-            if copies:
-                self.copy_now(asked.fields[1])
+    if asked.name == "HARDLINK" and any(opens(it, WRITE) for it in self.openers_at(asked.fields[0])):
+        self.copy_now(asked.fields[1])
 
 
 @ask

@@ -4,7 +4,7 @@ import posixpath
 import unicodedata
 
 from probing.faulty import (
-    MOVES, NOWHERE, Asks, Fault, aim_of, alter, clean, fault, is_below, leads_to, paths_of, refused, refuses,
+    MOVES, NOWHERE, Fault, aim_of, alter, alter_now, clean, fault, is_below, leads_to, paths_of, refused, refuses,
     spelled, top_of)
 from sftp3 import CREAT, READ
 
@@ -67,7 +67,7 @@ def inside_is_reset(self, asked):
                           for path in self.directories_below(old)]
 
 
-@fault("alter", Asks)
+@alter_now
 def open_file_moved_apart(self, asked):
     """RENAME of a file that is open to be read makes a copy of it under the new name."""
     if asked.name == "RENAME" and any(opener.fields[1] == READ for opener in self.openers_at(asked.fields[0])):

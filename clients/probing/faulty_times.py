@@ -58,7 +58,7 @@ touches = fault("touches", Touching)
 
 permissions_touch = touches("SETSTAT of permissions sets the time of modification.",
                             lambda self, asked: asked.name == "SETSTAT" and asked.fields[1].keys() == {"permissions"})
-rename_touches = touches("RENAME of a file sets its time of modification.",
+rename_touches = touches("RENAME of something sets its time of modification.",
                          lambda self, asked: asked.name == "RENAME", PLACE=1)
 read_touches = touches("READ through a handle that is open to read alone sets the time of modification.",
                        lambda self, asked: asked.name == "READ" and self.flags(asked) == sftp3.READ)
