@@ -137,6 +137,9 @@ times_by_reader_lost = times_set(
 permissions_by_handle_touch = touches(
     "FSETSTAT of permissions sets the time of modification.",
     lambda self, asked: asked.name == "FSETSTAT" and asked.fields[1].keys() == {"permissions"})
+owner_by_handle_touches = touches(
+    "FSETSTAT of an owner sets the time of modification.",
+    lambda self, asked: asked.name == "FSETSTAT" and asked.fields[1].keys() == {"owner"})
 rename_touches_directory = fault("touches", Asks, Touching)(
     "RENAME of a directory sets its time of modification.",
     lambda self, asked: asked.name == "RENAME" and self.kind_now(asked.fields[0]) == DIRECTORY, PLACE=1)
