@@ -20,6 +20,8 @@ TOLD = [
     ("no-times", ["--skip", "times"], ["--times"]),
     ("texts-alone", ["--skip", "not-utf-8"], []),
     ("one-owner", ["--skip", "owner"], []),
+    ("few-owners", ["--skip", "large-owner"], []),
+    ("bare-listings", ["--without", "listed-attributes"], []),
     ("no-links", ["--skip", "HARDLINK,READLINK,SYMLINK"], []),
 ]
 

@@ -11,6 +11,11 @@ def times(p):
                       1_000_000_000 + 2 * p.random.randrange(50_000_000))}
 
 
+def owner(p, *numbers):
+    """A user and a group, if plans set any."""
+    return {} if "owner" in p.skip else {"owner": numbers}
+
+
 def dated_file(p):
     """The times of a file stay while it is looked at, gets other permissions, is read, and gets another name; and they
     are set together with permissions that let nobody write."""
@@ -76,8 +81,8 @@ def dated_folder(p):
 
 def dated_sync(p):
     """Times that are set through a handle behind a WRITE stay when the file is synced and closed, as by `put -p -f`,
-    when its path gets an owner, and when it replaces another one, as by rsync; both times may be the same. They are set
-    through a handle that is open to read, too."""
+    when it gets an owner, by its path and through a handle, and when it replaces another one, as by rsync; both times
+    may be the same. They are set through a handle that is open to read, too."""
     path, step = p.blank(b"dated-sync"), None
     for flags in (WRITE | CREAT | TRUNC, READ | WRITE):
         step = p.ask("OPEN", path, flags, {})
@@ -91,40 +96,48 @@ def dated_sync(p):
     same = times(p)["times"][1]
     yield p.ask("SETSTAT", path, {"times": (same, same)})
     yield p.ask("LSTAT", path)
-    yield p.ask("SETSTAT", path, {"owner": (7, 8)})
-    yield p.ask("STAT", path)
-    yield p.ask("SETSTAT", path, {"owner": (0, 0)})
-    yield p.ask("STAT", path)
-    other = p.blank(b"dated-sync.old")
-    for name, flags in ((other, WRITE | CREAT), (path, READ)):
-        step = p.ask("OPEN", name, flags, {})
-        yield step
-        if name == path:
-            yield p.ask("FSETSTAT", step.opened(), times(p))
+    for given in (owner(p, 7, 8), owner(p, 0, 0)):
+        if given:
+            yield p.ask("SETSTAT", path, given)
+            yield p.ask("STAT", path)
+    yield from dated_replacing(p, path, p.blank(b"dated-sync.old"))
+
+
+def dated_replacing(p, path, old):
+    """A file that gets times and an owner through a handle that is open to read takes the place of another."""
+    made = p.ask("OPEN", old, WRITE | CREAT, {})
+    yield made
+    yield p.ask("CLOSE", made.opened())
+    step = p.ask("OPEN", path, READ, {})
+    yield step
+    for given in (times(p), owner(p, 7, 8)):
+        if given:
+            yield p.ask("FSETSTAT", step.opened(), given)
             yield p.ask("FSTAT", step.opened())
-        yield p.ask("CLOSE", step.opened())
-    yield p.ask("POSIX-RENAME", path, other)
-    yield p.ask("STAT", other)
+    yield p.ask("CLOSE", step.opened())
+    yield p.ask("POSIX-RENAME", path, old)
+    yield p.ask("STAT", old)
 
 
 def dated_whole(p):
-    """All attributes at once, as of a file that a client has looked at before, by path and by handle; a directory with
-    the permissions that it shows; and times by a link, which leads to the file."""
+    """A directory that gets the permissions that it shows; times by a link, which leads to the file; and all attributes
+    at once, as of a file that a client has looked at before, by path and by handle."""
     path, folder, link = p.blank(b"dated-whole"), p.blank(b"dated-whole.d"), p.blank(b"dated-whole.link")
+    yield p.ask("MKDIR", folder, {})
+    yield p.ask("SETSTAT", folder, {**owner(p, 5, 6), "permissions": 0o40750, **times(p)})
+    yield p.ask("STAT", folder)
     yield from upload(p, path, Content(p.random, 500))
-    yield p.ask("SETSTAT", path, {"size": 400, "owner": (5, 6), "permissions": 0o100640, **times(p)})
+    if "SYMLINK" not in p.skip:
+        yield p.ask("SYMLINK", path[1:], link)
+        yield p.ask("SETSTAT", link, times(p))
+        yield p.ask("STAT", link)
+    yield p.ask("SETSTAT", path, {"size": 400, **owner(p, 5, 6), "permissions": 0o100640, **times(p)})
     yield p.ask("STAT", path)
     step = p.ask("OPEN", path, READ | WRITE, {})
     yield step
-    yield p.ask("FSETSTAT", step.opened(), {"size": 300, "owner": (7, 8), "permissions": 0o100604, **times(p)})
+    yield p.ask("FSETSTAT", step.opened(), {"size": 300, **owner(p, 7, 8), "permissions": 0o100604, **times(p)})
     yield p.ask("FSTAT", step.opened())
     yield p.ask("CLOSE", step.opened())
-    yield p.ask("MKDIR", folder, {})
-    yield p.ask("SETSTAT", folder, {"owner": (5, 6), "permissions": 0o40750, **times(p)})
-    yield p.ask("STAT", folder)
-    yield p.ask("SYMLINK", path[1:], link)
-    yield p.ask("SETSTAT", link, times(p))
-    yield p.ask("STAT", link)
 
 
 # Each session has one of them: as in `planner.PERIODS`.

@@ -227,6 +227,18 @@ class Asks(Fault, waits=dict):
         self.now("SETSTAT", path, {"permissions": given["permissions"], "owner": given["owner"]})
 
 
+class After(Asks):
+    """Does more after a request, once the server has it."""
+
+    def requests(self, packets):
+        for packet in packets:
+            yield from super().requests([packet])
+            self.after(self.asked[int.from_bytes(packet[5:9], "big")])
+
+    def after(self, asked):
+        """What it does after this request."""
+
+
 def status(packet, code):
     """A STATUS with this code, in place of a reply."""
     return sftp3.packet(sftp3.STATUS, packet[5:9] + code + bytes(8))
@@ -604,7 +616,7 @@ class Spelled(Paths):
         return name
 
 
-# What makes faults: each maker is named like the method that its faults override, and whose parameters they may take.
+# What makes faults: each maker is named like the method that its faults override.
 alter = fault("alter", Fault)
 ask = fault("ask", Fault)
 answer = fault("answer", Fault)
@@ -627,3 +639,9 @@ in_flight = fault("in_flight", InFlight)
 overtakes = fault("overtakes", Overtaking)
 leads_to = fault("leads_to", Paths)
 spelled = fault("spelled", Spelled)
+
+# Those of faults that look at what is there before a request is done, or do more once it is.
+alter_now = fault("alter", Asks)
+ask_now = fault("ask", Asks)
+refuses_now = fault("refuses", Refuses, Asks)
+after = fault("after", After)

@@ -18,20 +18,21 @@ def is_text(data):
 
 line_ends_doubled = written_data(
     "In a WRITE of text, a newline gets a carriage return before it.",
-    lambda data: data.replace(b"\n", b"\r\n") if is_text(data) and b"\r" not in data else data)
+    lambda self, offset, data: data.replace(b"\n", b"\r\n") if is_text(data) and b"\r" not in data else data)
 line_ends_halved = shown("In DATA that is text, a carriage return before a newline is left out.",
-                         lambda data: data.replace(b"\r\n", b"\n") if is_text(data) else data)
+                         lambda self, asked, offset, data: data.replace(b"\r\n", b"\n") if is_text(data) else data)
 
 
 @shown
-def text_ends_at_sign(data):
+def text_ends_at_sign(self, asked, offset, data):
     """DATA that is text but for a byte of 26 ends there."""
     before, sign, _ = data.partition(b"\x1a")
     return before or None if sign and is_text(data.replace(b"\x1a", b"")) else data
 
 
-mark_of_order_lost = shown("The mark of UTF-8 at the start of a file is left out.",
-                           lambda offset, data: data.removeprefix(b"\xef\xbb\xbf") if offset == 0 else data)
+mark_of_order_lost = shown(
+    "The mark of UTF-8 at the start of a file is left out.",
+    lambda self, asked, offset, data: data.removeprefix(b"\xef\xbb\xbf") if offset == 0 else data)
 
 
 class archive_is_unpacked(Asks, inside=dict):

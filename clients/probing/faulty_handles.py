@@ -1,6 +1,6 @@
 """Faults of servers in handles, in counts, in what follows a refused request, and in what a request sets."""
 import sftp3
-from probing.faulty import FAR, Asks, Refuses, alter, code_of, fault, set_to, sets_size, shown, without
+from probing.faulty import FAR, Refuses, alter, ask_now, code_of, set_to, sets_size, shown, without
 from probing.faulty_writes import write_lost_by_count
 
 
@@ -29,7 +29,7 @@ failed_listings_leak = failed_opens_leak.but("OPENDIR fails behind 60 that faile
 write_256_lost = write_lost_by_count.but("The 256th WRITE through a handle is lost.", COUNT=256)
 write_128_lost = write_lost_by_count.but("The 128th WRITE through a handle is lost.", COUNT=128)
 read_256_wrong = shown("The 256th READ through a handle gives bytes of 0.",
-                       lambda self, asked, data: bytes(len(data)) if self.count_through(asked) == 256 else data)
+                       lambda self, asked, offset, data: bytes(len(data)) if self.count_through(asked) == 256 else data)
 
 
 class failed_write_stays(Refuses, failing=set):
@@ -55,7 +55,7 @@ def read_goes_on_behind_write(self, asked):
         self.ends[number] = offset + count
 
 
-@fault("ask", Asks)
+@ask_now
 def same_size_empties(self, asked):
     """SETSTAT and FSETSTAT of the size that a file has make all its bytes 0."""
     if sets_size(asked) and asked.fields[1]["size"]:
@@ -66,4 +66,5 @@ def same_size_empties(self, asked):
 
 permissions_at_limit = set_to(
     "SETSTAT of permissions leaves the file's own if they are those of no one (0).",
-    lambda given: given if given["permissions"] & 0o7777 else without(given, "permissions"), WHAT="permissions")
+    lambda self, asked, given: given if given["permissions"] & 0o7777 else without(given, "permissions"),
+    WHAT="permissions")

@@ -97,10 +97,10 @@ of_path = fault("of_path", RemovedOpen)
 
 removed_directory_is_there = of_path(
     "STAT and LSTAT find a directory that was removed while it was open, until it is closed.",
-    lambda asked: [sftp3.Request(asked.number, asked.name, [b"/"])] if asked.name in LOOKS else None)
+    lambda self, asked: [sftp3.Request(asked.number, asked.name, [b"/"])] if asked.name in LOOKS else None)
 removed_directory_keeps_path = of_path(
     "MKDIR at the path of a directory that was removed while it was open fails until it is closed.",
-    lambda asked: refused(asked) if asked.name == "MKDIR" else None)
+    lambda self, asked: refused(asked) if asked.name == "MKDIR" else None)
 
 
 @fault("ask", Meets)(fresh=dict)

@@ -241,11 +241,11 @@ class Names(sound):
 changed_name = fault("changed_name", Names)
 
 names_small = changed_name("Names that the session made have small letters in place of capitals.",
-                           lambda name: name.lower())
+                           lambda self, name: name.lower())
 
 
 @changed_name
-def names_apart(name):
+def names_apart(self, name):
     """Letters with accents in names that the session made are two signs each (NFD)."""
     try:
         return unicodedata.normalize("NFD", name.decode()).encode()[:trees.LONGEST_NAME]
@@ -254,7 +254,7 @@ def names_apart(name):
 
 
 names_trimmed = changed_name("Names that the session made lose blanks and dots at their end.",
-                             lambda name: name.rstrip(b" .") or name)
+                             lambda self, name: name.rstrip(b" .") or name)
 
 
 @lose

@@ -17,14 +17,14 @@ def listed_cannot_be_removed(self, asked):
 
 
 @refuses
-def unusual_cannot_be_removed(asked):
+def unusual_cannot_be_removed(self, asked):
     """REMOVE and RMDIR of a name with a quote, a newline, a backslash, a star or a bracket fail."""
     name = asked.fields[0].rpartition(b"/")[2] if asked.name in ("REMOVE", "RMDIR") else b""
     return any(byte in b"'\"\n\\*[" for byte in name)
 
 
 @answer
-def long_listing_cut(asked, reply):
+def long_listing_cut(self, asked, reply):
     """A reply of a listing that would have more than 16,384 bytes lacks its last names."""
     items = sftp3.names_in(reply) if asked.name == "READDIR" and reply[4] == sftp3.NAME else []
     while len(reply) > 16384 and items:
@@ -47,11 +47,12 @@ class stays_absent(Fault, absent=set):
         return [status(reply, ABSENT)] if path in self.absent else None
 
 
-append_keeps_truncated = flagged("OPEN with APPEND passes over TRUNC.",
-                                 lambda flags: flags & ~TRUNC if flags & APPEND and flags & WRITE else flags)
+append_keeps_truncated = flagged(
+    "OPEN with APPEND passes over TRUNC.",
+    lambda self, asked, flags: flags & ~TRUNC if flags & APPEND and flags & WRITE else flags)
 open_to_write_makes = flagged(
     "OPEN to write makes a file without CREAT.",
-    lambda flags: flags | CREAT if flags & WRITE and not flags & ~(READ | WRITE | APPEND) else flags)
+    lambda self, asked, flags: flags | CREAT if flags & WRITE and not flags & ~(READ | WRITE | APPEND) else flags)
 
 
 @ask
@@ -76,26 +77,28 @@ def directory_replaces_file(self, asked):
 
 
 slash_cannot_be_made = refuses(
-    "MKDIR of a path that ends in a slash fails.", lambda asked:
+    "MKDIR of a path that ends in a slash fails.", lambda self, asked:
     asked.name == "MKDIR" and asked.fields[0].endswith(b"/") and asked.fields[0].strip(b"/"), HIDDEN_BY=("slash",))
 empty_path_leads_nowhere = leads_to(
     "A path of no bytes leads nowhere.",
-    lambda asked, place, path: path if path or place or asked.name == "SYMLINK" else NOWHERE, HIDDEN_BY=("slash",))
+    lambda self, asked, place, path: path if path or place or asked.name == "SYMLINK" else NOWHERE,
+    HIDDEN_BY=("slash",))
 
 
 @leads_to
-def long_path_fails(asked, path):
+def long_path_fails(self, asked, place, path):
     """A path of more than 280 bytes, and less than 1,024, leads nowhere."""
     is_long = 280 < len(path) < 1024 and all(len(part) < 256 for part in path.split(b"/"))
     return NOWHERE if is_long and asked.name != "SYMLINK" else path
 
 
 large_read_fails = refuses("A READ of more than 2^18 bytes fails.",
-                           lambda asked: asked.name == "READ" and asked.fields[2] > 2 ** 18)
-set_size_alone = set_to("SETSTAT and FSETSTAT of a size and more set the size alone.",
-                        lambda given: {"size": given["size"]} if given["size"] < FAR else given, WHAT="size")
+                           lambda self, asked: asked.name == "READ" and asked.fields[2] > 2 ** 18)
+set_size_alone = set_to(
+    "SETSTAT and FSETSTAT of a size and more set the size alone.",
+    lambda self, asked, given: {"size": given["size"]} if given["size"] < FAR else given, WHAT="size")
 set_id_lost = set_to("SETSTAT of permissions leaves out those to be run as the file's user and group.",
-                     lambda given: {**given, "permissions": given["permissions"] & ~0o6000},
+                     lambda self, asked, given: {**given, "permissions": given["permissions"] & ~0o6000},
                      NAMES=("SETSTAT",), WHAT="permissions", HIDDEN_BY=("set-id",))
 
 
@@ -118,10 +121,10 @@ class further_name_set_apart(Meets, Attributes, modes=dict):
         return given if mode is None else {**given, "permissions": mode}
 
 
-target_cut = target("READLINK gives at most 255 bytes.", lambda target: target[:255])
+target_cut = target("READLINK gives at most 255 bytes.", lambda self, asked, target: target[:255])
 target_not_ascii = target(
     "READLINK gives `?` for a byte above 127 of a target of more than ten bytes.",
-    lambda target: bytes(63 if byte > 127 and len(target) > 10 else byte for byte in target))
+    lambda self, asked, target: bytes(63 if byte > 127 and len(target) > 10 else byte for byte in target))
 
 
 @alter(links=set, chains=set)
@@ -167,12 +170,12 @@ def renamed_directory_is_reset(self, asked):
 
 kind_cannot_be_made = refuses(
     "MKDIR with permissions that say that it is a directory (040000) fails.",
-    lambda asked: asked.name == "MKDIR" and asked.fields[1].get("permissions", 0) & KIND == DIRECTORY)
+    lambda self, asked: asked.name == "MKDIR" and asked.fields[1].get("permissions", 0) & KIND == DIRECTORY)
 large_owner_cut = set_to(
     "The numbers of users and groups that are set are taken modulo 65,536.",
-    lambda given: {**given, "owner": tuple(number % 65536 for number in given["owner"])}, WHAT="owner")
-id_of_zero_fails = refuses("A request with the id 0 fails.", lambda asked: asked.number == 0)
-large_id_fails = refuses("A request with an id of 2^31 or more fails.", lambda asked: asked.number >= 2 ** 31)
+    lambda self, asked, given: {**given, "owner": tuple(number % 65536 for number in given["owner"])}, WHAT="owner")
+id_of_zero_fails = refuses("A request with the id 0 fails.", lambda self, asked: asked.number == 0)
+large_id_fails = refuses("A request with an id of 2^31 or more fails.", lambda self, asked: asked.number >= 2 ** 31)
 failure_in_much_flight = in_flight(
     "With 40 or more requests unanswered, OK is told as FAILURE.",
-    lambda reply, count: [status(reply, FAILED)] if count >= 40 and code_of(reply) == sftp3.OK else None)
+    lambda self, asked, reply, count: [status(reply, FAILED)] if count >= 40 and code_of(reply) == sftp3.OK else None)

@@ -8,17 +8,17 @@ from probing.faulty import (
 
 name_lost_by_count = listed(
     "A listing lacks its 500th name.",
-    lambda before, items: [item for number, item in enumerate(items, before + 1) if number != 500])
+    lambda self, asked, before, items: [item for number, item in enumerate(items, before + 1) if number != 500])
 name_lost_at_end = listed("A listing of more than 40 names lacks the last of each reply.",
-                          lambda before, items: items[:-1] if before + len(items) > 40 else items)
+                          lambda self, asked, before, items: items[:-1] if before + len(items) > 40 else items)
 name_lost_by_length = listed_name("A listing lacks names of more than 200 bytes.",
-                                  lambda name: name if len(name) <= 200 else None)
+                                  lambda self, name: name if len(name) <= 200 else None)
 name_lost_hidden = listed_name("A listing lacks names that begin with a dot.",
-                               lambda name: None if name.startswith(b".") and name not in (b".", b"..") else name)
+                               lambda self, name: None if name.startswith(b".") and name not in (b".", b"..") else name)
 listing_ends_at_1000 = listed("A listing ends after 1,000 names.",
-                              lambda before, items: items[:max(0, 1000 - before)])
+                              lambda self, asked, before, items: items[:max(0, 1000 - before)])
 listing_ends_at_4096 = listed("A listing ends after 4,096 names.",
-                              lambda before, items: items[:max(0, 4096 - before)])
+                              lambda self, asked, before, items: items[:max(0, 4096 - before)])
 
 
 @listed(last=dict)
@@ -30,19 +30,19 @@ def name_twice_between_replies(self, asked, before, items):
 
 
 name_twice_by_count = listed(
-    "The 90th name of a listing is given twice.", lambda before, items: [
+    "The 90th name of a listing is given twice.", lambda self, asked, before, items: [
         item for number, item in enumerate(items, before + 1) for _ in range(1 + (number == 90))])
-name_with_newline = listed_name("A newline in a name is listed as `?`.", lambda name: name.replace(b"\n", b"?"))
+name_with_newline = listed_name("A newline in a name is listed as `?`.", lambda self, name: name.replace(b"\n", b"?"))
 name_not_ascii = listed_name("A byte above 127 in a name of more than six bytes is listed as `?`.",
-                             lambda name: bytes(63 if byte > 127 and len(name) > 6 else byte for byte in name))
+                             lambda self, name: bytes(63 if byte > 127 and len(name) > 6 else byte for byte in name))
 name_without_blank = listed_name("Blanks at the end of a name are left out in a listing.",
-                                 lambda name: name.rstrip(b" ") or None)
+                                 lambda self, name: name.rstrip(b" ") or None)
 listed_size = listed_given("A listing shows the sizes of files modulo 65,536.",
-                           lambda given: {**given, "size": given["size"] % 65536})
+                           lambda self, given: {**given, "size": given["size"] % 65536})
 
 
 @listed
-def listed_permissions(before, items):
+def listed_permissions(self, asked, before, items):
     """A listing of more than 10 names shows no permissions of others for the last of a reply."""
     name, long, given = items[-1]
     if before + len(items) <= 10:
@@ -119,40 +119,42 @@ link_cannot_be_listed = fault("answer", Links)(
 
 
 @of_link(REQUEST="OPEN")
-def link_cannot_be_opened(asked):
+def link_cannot_be_opened(self, asked):
     """OPEN of a link fails."""
     if not asked.fields[1] & sftp3.CREAT:
         return [sftp3.Request(asked.number, "OPEN", [b"/", *asked.fields[1:]])]
     asked.fields[1] |= sftp3.EXCL
 
 
-set_of_link_lost = of_link("SETSTAT of a link is told done, and is not.", told_done, REQUEST="SETSTAT")
+set_of_link_lost = of_link("SETSTAT of a link is told done, and is not.", lambda self, asked: told_done(asked),
+                           REQUEST="SETSTAT")
 removed_link_empties_file = of_link(
     "REMOVE of a link empties the file that it leads to.",
     lambda self, asked: [self.another("SETSTAT", asked.fields[0], {"size": 0}), asked], REQUEST="REMOVE")
 
-deep_path_fails = leads_to("A path of more than 20 names leads nowhere.",
-                           lambda path: NOWHERE if path.count(b"/") > 20 and len(path) < 4096 else path)
+deep_path_fails = leads_to(
+    "A path of more than 20 names leads nowhere.",
+    lambda self, asked, place, path: NOWHERE if path.count(b"/") > 20 and len(path) < 4096 else path)
 long_name_fails = leads_to(
     "A name of more than 250 bytes is cut there.",
-    lambda path: b"/".join(part[:250] if len(part) < 256 else part for part in path.split(b"/")))
+    lambda self, asked, place, path: b"/".join(part[:250] if len(part) < 256 else part for part in path.split(b"/")))
 
 percent_decoded = spelled(
-    "`%` with two hexadecimal digits in a name is the byte of that number.", lambda name: re.sub(
+    "`%` with two hexadecimal digits in a name is the byte of that number.", lambda self, name: re.sub(
         rb"%([2-7][0-9A-Fa-f])", lambda found: bytes([int(found[1], 16)]).replace(b"/", found[0]), name))
-plus_is_blank = spelled("A plus in a name is a blank.", lambda name: name.replace(b"+", b" "))
-angles_lost = spelled("`<` and `>` in names become `_`.", lambda name: re.sub(rb"[<>]", b"_", name))
+plus_is_blank = spelled("A plus in a name is a blank.", lambda self, name: name.replace(b"+", b" "))
+angles_lost = spelled("`<` and `>` in names become `_`.", lambda self, name: re.sub(rb"[<>]", b"_", name))
 signs_lost = spelled("The signs ``= , @ ^ ! ` { } ( )`` in names become `_`.",
-                     lambda name: re.sub(rb"[=,@^!`{}()]", b"_", name))
+                     lambda self, name: re.sub(rb"[=,@^!`{}()]", b"_", name))
 
 
 @spelled
-def colon_ends_name(name):
+def colon_ends_name(self, name):
     """A colon inside a name ends it, as where it begins the name of a stream."""
     before, _, behind = name.partition(b":")
     return before if before and behind else name
 
 
-dot_at_end_lost = spelled("Dots at the end of a name are left out.", lambda name: name.rstrip(b".") or name)
+dot_at_end_lost = spelled("Dots at the end of a name are left out.", lambda self, name: name.rstrip(b".") or name)
 carriage_return_lost = spelled("A carriage return in a name is left out.",
-                               lambda name: name.replace(b"\r", b"") or name)
+                               lambda self, name: name.replace(b"\r", b"") or name)

@@ -131,11 +131,11 @@ write_to_remade = ToRemade.but(
 read_of_remade = ToRemade.but(
     "A READ through the handle of a removed file goes to the file that was made anew by the path.", REQUEST="READ")
 removed_cannot_be_synced = of_removed("FSYNC through the handle of a removed file fails.",
-                                      lambda asked: refused(asked) if asked.name == "FSYNC" else None)
+                                      lambda self, asked: refused(asked) if asked.name == "FSYNC" else None)
 
 
 @of_removed
-def removed_cannot_be_cut(asked):
+def removed_cannot_be_cut(self, asked):
     """FSETSTAT of a size through the handle of a removed file is told done, and is not."""
     if sets_size(asked):
         asked.fields[1].pop("size")

@@ -65,25 +65,26 @@ of_one_file, old_place, listed_in = (fault("are_meant", above) for above in (OfO
 
 cut_overtakes_write = of_one_file(
     "A SETSTAT of a size is done before a WRITE of the file that came just before it.",
-    lambda second: sets_size(second), FIRST=("WRITE",), SECOND=("SETSTAT",))
+    lambda self, first, second: sets_size(second), FIRST=("WRITE",), SECOND=("SETSTAT",))
 write_overtakes_cut = overtakes(
-    "A WRITE is done before an FSETSTAT of a size that came just before it through the handle.", lambda first, second:
+    "A WRITE is done before an FSETSTAT of a size that came just before it through the handle.",
+    lambda self, first, second:
     (first.name, second.name) == ("FSETSTAT", "WRITE") and sets_size(first) and first.handle() == second.handle())
 set_overtakes_set = OfOneFile.but("A SETSTAT is done before a SETSTAT of the same path that came just before it.",
                                   FIRST=("SETSTAT",), SECOND=("SETSTAT",))
 set_overtakes_trunc = of_one_file(
     "A SETSTAT is done before an OPEN with TRUNC of the same path that came just before it.",
-    lambda first: opens(first, TRUNC), FIRST=("OPEN",), SECOND=("SETSTAT",))
+    lambda self, first, second: opens(first, TRUNC), FIRST=("OPEN",), SECOND=("SETSTAT",))
 trunc_overtakes_read = of_one_file(
     "An OPEN with TRUNC is done before a READ of the file that came just before it.",
-    lambda second: opens(second, TRUNC), FIRST=("READ",), SECOND=("OPEN",))
+    lambda self, first, second: opens(second, TRUNC), FIRST=("READ",), SECOND=("OPEN",))
 cut_overtakes_read = of_one_file("A SETSTAT of a size is done before a READ of the file that came just before it.",
-                                 lambda second: sets_size(second), FIRST=("READ",), SECOND=("SETSTAT",))
+                                 lambda self, first, second: sets_size(second), FIRST=("READ",), SECOND=("SETSTAT",))
 read_overtakes_cut = OfOneFile.but("A READ is done before an FSETSTAT that came just before it through the handle.",
                                    FIRST=("FSETSTAT",), SECOND=("READ",))
 look_overtakes_write_elsewhere = of_one_file(
     "An FSTAT is done before a WRITE through another handle of the file that came just before it.",
-    lambda first, second: first.handle() != second.handle(), FIRST=("WRITE",), SECOND=("FSTAT",))
+    lambda self, first, second: first.handle() != second.handle(), FIRST=("WRITE",), SECOND=("FSTAT",))
 look_overtakes_further_name = AtNewPlace.but(
     "An OPEN, STAT or LSTAT of a name is done before the HARDLINK that makes it and came just before.",
     FIRST=("HARDLINK",), SECOND=("OPEN", *LOOKS))
@@ -103,7 +104,7 @@ set_overtakes_rename = AtNewPlace.but(
     "A SETSTAT of the new name is done before the RENAME that came just before it.", FIRST=MOVES, SECOND=("SETSTAT",))
 open_overtakes_rename = old_place(
     "An OPEN with CREAT is done before the RENAME of its path to another that came just before it.",
-    lambda second: opens(second, CREAT), FIRST=MOVES, SECOND=("OPEN",))
+    lambda self, first, second: opens(second, CREAT), FIRST=MOVES, SECOND=("OPEN",))
 making_overtakes_removal = OldPlace.but("A MKDIR is done before the RMDIR of its path that came just before it.",
                                         FIRST=("RMDIR",), SECOND=("MKDIR",))
 further_rename_overtakes = AtNewPlace.but(
@@ -114,10 +115,10 @@ replacing_overtakes_open = ToPlace.but(
     FIRST=("OPEN",), SECOND=("POSIX-RENAME",))
 remove_overtakes_open = old_place(
     "A REMOVE is done before an OPEN with CREAT of the path that came just before it.",
-    lambda first: opens(first, CREAT), FIRST=("OPEN",), SECOND=("REMOVE",))
+    lambda self, first, second: opens(first, CREAT), FIRST=("OPEN",), SECOND=("REMOVE",))
 look_overtakes_move_of_top = fault("meet", Pair)(
     "An OPEN, STAT or LSTAT below a directory is done before the RENAME of the directory that came just before it.",
-    lambda first, second: any(is_below(clean(second.fields[0]), clean(path)) for path in first.fields),
+    lambda self, first, second: any(is_below(clean(second.fields[0]), clean(path)) for path in first.fields),
     FIRST=MOVES, SECOND=("OPEN", *LOOKS))
 
 
@@ -145,14 +146,15 @@ class Apart(Fault, numbers=set):
 apart = fault("meant", Apart)
 
 length_apart_fails = apart(
-    "A request fails if its first one to three bytes, which begin its length, come alone.", lambda count: count < 4)
+    "A request fails if its first one to three bytes, which begin its length, come alone.",
+    lambda self, count: count < 4)
 head_apart_fails = apart(
     "A request fails if its length comes alone, or with no more than its type and a part of its id.",
-    lambda count: 4 <= count < 9)
+    lambda self, count: 4 <= count < 9)
 
 listing_overtakes_opening = listed_in(
     "An OPENDIR is done before an OPEN with CREAT in the directory that came just before it.",
-    lambda first: opens(first, CREAT), FIRST=("OPEN",))
+    lambda self, first, second: opens(first, CREAT), FIRST=("OPEN",))
 listing_overtakes_set = ListedIn.but(
     "An OPENDIR is done before a SETSTAT in the directory that came just before it.", FIRST=("SETSTAT",))
 target_overtakes_replacing = AtNewPlace.but(

@@ -4,9 +4,9 @@ import posixpath
 
 import sftp3
 from probing.faulty import (
-    DIRECTORY, FAILED, FILE, KIND, LINK, LOOKS, MOVES, NOWHERE, Asks, Fault, Listings, Refuses, ask, clean, code_of,
-    fault, is_below, listed_name, opens, paths_of, refused, refuses, set_to, sets, spelled, status, top_of,
-    with_attributes, without)
+    DIRECTORY, FAILED, FILE, KIND, LINK, LOOKS, MOVES, NOWHERE, After, Asks, Fault, Listings, Refuses, alter_now, ask,
+    clean, code_of, fault, is_below, listed_name, opens, paths_of, refused, refuses, set_to, sets, spelled, status,
+    top_of, with_attributes, without)
 from probing.faulty_stores import Made, of_made
 from sftp3 import CREAT
 
@@ -16,7 +16,7 @@ def beside(asked):
     return len({posixpath.dirname(path) for path in paths_of(asked)}) == 1
 
 
-@fault("alter", Asks)
+@alter_now
 def moved_across_is_copy(self, asked):
     """RENAME of a file to another directory makes a copy: what has it open, and its other names, have the old one."""
     if asked.name == "RENAME" and not beside(asked) and self.kind_now(asked.fields[0]) == FILE \
@@ -33,7 +33,7 @@ def moved_tree_is_copy(self, asked):
                 self.copy_now(path)
 
 
-class remade_directory_is_full(Asks, removed=dict, gone=set):
+class remade_directory_is_full(After, removed=dict, gone=set):
     """MKDIR at the path of a directory that was removed brings back the first name that was removed from it."""
 
     def alter(self, asked):
@@ -43,13 +43,10 @@ class remade_directory_is_full(Asks, removed=dict, gone=set):
         if asked.name == "RMDIR":
             self.gone.add(clean(asked.fields[0]))
 
-    def requests(self, packets):
-        for packet in packets:
-            yield from super().requests([packet])
-            asked = self.asked[int.from_bytes(packet[5:9], "big")]
-            path = clean(asked.fields[0]) if asked.name == "MKDIR" else None
-            if path in self.gone and path in self.removed:
-                self.now("SYMLINK", b"whiteout", self.removed[path])
+    def after(self, asked):
+        path = clean(asked.fields[0]) if asked.name == "MKDIR" else None
+        if path in self.gone and path in self.removed:
+            self.now("SYMLINK", b"whiteout", self.removed[path])
 
 
 class Tombs(Refuses, removed=set):
@@ -128,7 +125,7 @@ class attributes_by_other_path(Fault, links=lambda: {b"/to-d", b"/to-e"}, seen=d
         return [with_attributes(reply, self.seen.setdefault((asked.name, path), sftp3.attributes_in(reply)))]
 
 
-@fault("alter", Asks)
+@alter_now
 def file_is_made_below_file(self, asked):
     """OPEN with CREAT of a path below a file makes a file."""
     if opens(asked, CREAT):
@@ -137,14 +134,25 @@ def file_is_made_below_file(self, asked):
             asked.fields[0] = top + b".below"
 
 
-@fault("alter", Asks)
-def dangling_does_not_count(self, asked):
-    """RMDIR removes a directory in which only links are that lead nowhere."""
-    if asked.name == "RMDIR" and self.kind_now(asked.fields[0]) == DIRECTORY:
-        paths = [asked.fields[0] + b"/" + name for name in self.names_now(asked.fields[0]) or ()]
-        if all(self.dangles(path) for path in paths):
-            for path in paths:
-                self.now("REMOVE", path)
+class Overlooks(Asks):
+    """RMDIR removes a directory in which only some names are, with them."""
+
+    def alter(self, asked):
+        if asked.name == "RMDIR" and self.kind_now(asked.fields[0]) == DIRECTORY:
+            paths = [clean(asked.fields[0]) + b"/" + name for name in self.names_now(asked.fields[0]) or ()]
+            if all(map(self.overlooks, paths)):
+                for path in paths:
+                    self.now("REMOVE", path)
+                    self.now("RMDIR", path)
+
+    def overlooks(self, _path):
+        return False
+
+
+overlooks = fault("overlooks", Overlooks)
+
+dangling_does_not_count = overlooks("RMDIR removes a directory in which only links are that lead nowhere.",
+                                    lambda self, path: self.dangles(path))
 
 
 class read_only_cannot_be_removed(Asks):
@@ -202,7 +210,7 @@ def rename_to_further_name_done(self, asked):
 
 temporary_unlisted = listed_name(
     "A listing lacks names of what programs make for a while: those that end in `~`, `.tmp` or `.filepart`.",
-    lambda name: None if name.endswith((b"~", b".tmp", b".filepart")) and len(name) > 1 else name)
+    lambda self, name: None if name.endswith((b"~", b".tmp", b".filepart")) and len(name) > 1 else name)
 
 
 class full_page_fails(Listings):
@@ -230,18 +238,20 @@ def exe_is_found(self, asked):
 
 
 entities_decoded = spelled("`&amp;` and `&lt;` in a name are `&` and `<`, as in XML.",
-                           lambda name: name.replace(b"&lt;", b"<").replace(b"&amp;", b"&"))
+                           lambda self, name: name.replace(b"&lt;", b"<").replace(b"&amp;", b"&"))
 set_of_kind_fails = refuses(
     "SETSTAT of permissions that say that it is a directory (040000) fails.",
-    lambda asked: asked.name == "SETSTAT" and asked.fields[1].get("permissions", 0) & KIND == DIRECTORY)
-owner_of_zero_lost = set_to("SETSTAT and FSETSTAT of the user and the group 0 leave the owner as it is.",
-                            lambda given: given if any(given["owner"]) else without(given, "owner"), WHAT="owner")
+    lambda self, asked: asked.name == "SETSTAT" and asked.fields[1].get("permissions", 0) & KIND == DIRECTORY)
+owner_of_zero_lost = set_to(
+    "SETSTAT and FSETSTAT of the user and the group 0 leave the owner as it is.",
+    lambda self, asked, given: given if any(given["owner"]) else without(given, "owner"), WHAT="owner")
 set_of_all_lacks_permissions = set_to(
-    "SETSTAT and FSETSTAT of size, owner, permissions and times together leave out the permissions.", lambda given:
+    "SETSTAT and FSETSTAT of size, owner, permissions and times together leave out the permissions.",
+    lambda self, asked, given:
     without(given, "permissions") if {"size", "owner", "permissions", "times"} <= given.keys() else given)
 
 
-@fault("alter", Asks)(OPTIONS=("--times",))
+@alter_now(OPTIONS=("--times",))
 def times_of_link_fail(self, asked):
     """SETSTAT of the times of a link is told done, and leaves those of the file that it leads to."""
     if sets(asked, "times", ("SETSTAT",)) and self.kind_now(asked.fields[0]) == LINK:

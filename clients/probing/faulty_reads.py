@@ -4,15 +4,16 @@ from probing.faulty import FAR, OK_STATUS, Moved, Reads, alter, at_end, is_below
 KIB = 1024
 
 read_corrupt_by_offset = shown("DATA that lies behind byte 100,000 has a wrong first byte.",
-                               lambda offset, data: with_other(data, 0) if offset >= 100000 else data)
+                               lambda self, asked, offset, data: with_other(data, 0) if offset >= 100000 else data)
 read_corrupt_at_boundary = shown("The byte at 32,768 is wrong.",
-                                 lambda offset, data: with_other(data, 32 * KIB - offset))
-read_corrupt_by_size = shown("In DATA of 32,768 bytes or more, the last 512 are 0.",
-                             lambda data: data if len(data) < 32 * KIB else data[:-512] + bytes(512))
+                                 lambda self, asked, offset, data: with_other(data, 32 * KIB - offset))
+read_corrupt_by_size = shown(
+    "In DATA of 32,768 bytes or more, the last 512 are 0.",
+    lambda self, asked, offset, data: data if len(data) < 32 * KIB else data[:-512] + bytes(512))
 
 
 @shown(count=int)
-def read_corrupt_by_count(self, data):
+def read_corrupt_by_count(self, asked, offset, data):
     """Each 40th DATA of 1,000 bytes or more has its first two bytes exchanged."""
     self.count += len(data) >= 1000
     return data[1::-1] + data[2:] if len(data) >= 1000 and self.count % 40 == 0 else data
@@ -20,11 +21,12 @@ def read_corrupt_by_count(self, data):
 
 read_lacks_last_byte = shown(
     "DATA that ends where the file ends, behind 32 KiB, lacks the last byte.",
-    lambda asked, offset, data:
+    lambda self, asked, offset, data:
     data[:-1] if offset >= 32 * KIB and 1 < len(data) < min(asked.fields[2], 32 * KIB) else data)
-read_cut = shown("DATA has at most 16,384 bytes, wherever the file ends.", lambda data: data[:16 * KIB])
+read_cut = shown("DATA has at most 16,384 bytes, wherever the file ends.",
+                 lambda self, asked, offset, data: data[:16 * KIB])
 read_ends_early = shown("A READ at 2^20 or behind finds the end of the file.",
-                        lambda offset, data: None if offset >= 2 ** 20 else data)
+                        lambda self, asked, offset, data: None if offset >= 2 ** 20 else data)
 read_ends_at_block = shown(
     "Of a file of which 32,768 bytes were written, a READ that begins in the second half finds the end.",
     lambda self, asked, offset, data: None if self.length(asked) == 32 * KIB and offset >= 16 * KIB else data)
@@ -42,15 +44,15 @@ class read_ends_below_renamed(Moved, Reads):
 
 read_behind_end = at_end(
     "A READ at an offset from 1,000 on that is behind the end gives a byte of 0.",
-    lambda asked, reply: with_data(reply, b"\0") if 1000 <= asked.fields[1] < FAR and asked.fields[2] else reply)
+    lambda self, asked, reply: with_data(reply, b"\0") if 1000 <= asked.fields[1] < FAR and asked.fields[2] else reply)
 read_empty_at_end = at_end("A READ of 32 KiB or more at the end is answered with DATA of no bytes.",
-                           lambda asked, reply: with_data(reply, b"") if asked.fields[2] >= 32 * KIB else reply)
+                           lambda self, asked, reply: with_data(reply, b"") if asked.fields[2] >= 32 * KIB else reply)
 read_ok_at_end = at_end("A READ of 4 KiB or more at the end is answered with OK.",
-                        lambda asked, reply: status(reply, OK_STATUS) if asked.fields[2] >= 4 * KIB else reply)
+                        lambda self, asked, reply: status(reply, OK_STATUS) if asked.fields[2] >= 4 * KIB else reply)
 
 
 @alter
-def read_offset_wraps(asked):
+def read_offset_wraps(self, asked):
     """The offset of a READ is taken modulo 2^32."""
     if asked.name == "READ":
         asked.fields[1] %= 2 ** 32

@@ -7,9 +7,9 @@ from probing.faulty import (
 from sftp3 import CREAT, EXCL, READ, TRUNC
 
 size_wraps = seen("STAT, LSTAT and FSTAT show sizes modulo 65,536.",
-                  lambda given: {**given, "size": given["size"] % 65536})
+                  lambda self, asked, given: {**given, "size": given["size"] % 65536})
 size_of_large_file = seen("STAT, LSTAT and FSTAT show at most 2^20 as a size.",
-                          lambda given: {**given, "size": min(given["size"], 2 ** 20)})
+                          lambda self, asked, given: {**given, "size": min(given["size"], 2 ** 20)})
 
 
 class size_after_truncation(Attributes):
@@ -50,10 +50,12 @@ def size_not_until_close(self, asked, given):
     return {**given, "size": 0} if fresh and asked.name in LOOKS else given
 
 
-permissions_lost = set_to("SETSTAT and FSETSTAT of permissions leave out the bit to execute for others.",
-                          lambda given: {**given, "permissions": given["permissions"] & ~1}, WHAT="permissions")
-permissions_lost_with_times = set_to("FSETSTAT of permissions together with times sets the times alone.",
-                                     lambda given: without(given, "permissions"), NAMES=("FSETSTAT",), WHAT="times")
+permissions_lost = set_to(
+    "SETSTAT and FSETSTAT of permissions leave out the bit to execute for others.",
+    lambda self, asked, given: {**given, "permissions": given["permissions"] & ~1}, WHAT="permissions")
+permissions_lost_with_times = set_to(
+    "FSETSTAT of permissions together with times sets the times alone.",
+    lambda self, asked, given: without(given, "permissions"), NAMES=("FSETSTAT",), WHAT="times")
 
 
 @ask
@@ -64,9 +66,9 @@ def permissions_after_replacing(self, asked):
 
 
 owner_swapped = seen("STAT, LSTAT and FSTAT show the user as the group and the group as the user.",
-                     lambda given: {**given, "owner": given["owner"][::-1]})
+                     lambda self, asked, given: {**given, "owner": given["owner"][::-1]})
 link_is_file = seen(
-    "LSTAT shows a link as a file.", lambda asked, given: {**given, "permissions": FILE | 0o777}
+    "LSTAT shows a link as a file.", lambda self, asked, given: {**given, "permissions": FILE | 0o777}
     if asked.name == "LSTAT" and given["permissions"] & KIND == LINK else given)
 
 
@@ -83,32 +85,32 @@ class large_write_fails(Fault):
 
 
 far_size_done = code(
-    "SETSTAT and FSETSTAT of 2^63 bytes or more are told done.", lambda asked, code:
+    "SETSTAT and FSETSTAT of 2^63 bytes or more are told done.", lambda self, asked, code:
     sftp3.OK if asked.name in SETS and asked.fields[1].get("size", 0) >= 2 ** 63 else code, HIDDEN_BY=("limits",))
 absent_is_failure = code(
-    "STAT and LSTAT of what is not there are answered with FAILURE.", lambda asked, code:
+    "STAT and LSTAT of what is not there are answered with FAILURE.", lambda self, asked, code:
     sftp3.FAILURE if asked.name in LOOKS and code == sftp3.NO_SUCH_FILE else code, HIDDEN_BY=("codes",))
 remove_absent_done = code(
     "REMOVE of what is not there is told done.",
-    lambda asked, code: sftp3.OK if asked.name == "REMOVE" and code == sftp3.NO_SUCH_FILE else code)
+    lambda self, asked, code: sftp3.OK if asked.name == "REMOVE" and code == sftp3.NO_SUCH_FILE else code)
 made_twice_done = code("MKDIR of what is there is told done.",
-                       lambda asked, code: sftp3.OK if asked.name == "MKDIR" and code == sftp3.FAILURE else code)
+                       lambda self, asked, code: sftp3.OK if asked.name == "MKDIR" and code == sftp3.FAILURE else code)
 
 
 @code(count=int)
-def done_told_failed(self, code):
+def done_told_failed(self, asked, code):
     """Each 30th OK is told as FAILURE."""
     self.count += code == sftp3.OK
     return sftp3.FAILURE if code == sftp3.OK and self.count % 30 == 0 else code
 
 
-excl_ignored = flagged("OPEN passes over EXCL.", lambda flags: flags & ~EXCL if flags & CREAT else flags)
+excl_ignored = flagged("OPEN passes over EXCL.", lambda self, asked, flags: flags & ~EXCL if flags & CREAT else flags)
 creat_needs_write = flagged("OPEN to read alone passes over CREAT.",
-                            lambda flags: READ if flags == READ | CREAT else flags)
+                            lambda self, asked, flags: READ if flags == READ | CREAT else flags)
 
 
 @alter
-def owner_lost(asked):
+def owner_lost(self, asked):
     """OPEN with TRUNC, by a path of three slashes or more, passes over the owner of a new file: some 4 of 300 sessions
     ask for it."""
     if opens(asked, TRUNC) and asked.fields[0].count(b"/") >= 3:
@@ -123,7 +125,7 @@ def remove_lost(self, asked):
 
 
 @ask
-def rename_lost(asked):
+def rename_lost(self, asked):
     """RENAME of a name of more than 30 bytes is told done, and is not."""
     if asked.name in MOVES and len(asked.fields[0].rpartition(b"/")[2]) > 30:
         return told_done(asked)
@@ -165,12 +167,12 @@ def closed_handle_works(self, asked, reply):
 
 
 read_overtakes_write = overtakes(
-    "A READ is done before a WRITE of the same handle that came together with it.", lambda first, second:
+    "A READ is done before a WRITE of the same handle that came together with it.", lambda self, first, second:
     (first.name, second.name) == ("WRITE", "READ") and first.handle() == second.handle())
 
 
 @overtakes
-def write_overtakes_write(first, second):
+def write_overtakes_write(self, first, second):
     """A WRITE is done before another of the same bytes that came together with it."""
     return first.name == second.name == "WRITE" and first.handle() == second.handle() \
         and first.fields[1] < second.fields[1] + len(second.fields[2]) \
@@ -178,10 +180,10 @@ def write_overtakes_write(first, second):
 
 
 fstat_overtakes_write = overtakes(
-    "An FSTAT is done before a WRITE of the same handle that came together with it.", lambda first, second:
+    "An FSTAT is done before a WRITE of the same handle that came together with it.", lambda self, first, second:
     (first.name, second.name) == ("WRITE", "FSTAT") and first.handle() == second.handle())
 close_overtakes_write = overtakes(
-    "A CLOSE is done before a WRITE of the same handle that came together with it.", lambda first, second:
+    "A CLOSE is done before a WRITE of the same handle that came together with it.", lambda self, first, second:
     (first.name, second.name) == ("WRITE", "CLOSE") and first.handle() == second.handle())
 
 
@@ -211,8 +213,9 @@ class data_of_other_read(InFlight):
 
 
 failure_in_flight = in_flight(
-    "With 15 or more requests unanswered, OK is told as FAILURE.", lambda reply, count:
+    "With 15 or more requests unanswered, OK is told as FAILURE.", lambda self, asked, reply, count:
     [reply[:9] + FAILED + reply[13:]] if count >= 15 and code_of(reply) == sftp3.OK else None)
 reply_twice_in_flight = in_flight(
-    "With ten or more requests unanswered, a DATA of more than 1,000 bytes comes twice.", lambda reply, count:
+    "With ten or more requests unanswered, a DATA of more than 1,000 bytes comes twice.",
+    lambda self, asked, reply, count:
     [reply] * 2 if count >= 10 and reply[4] == sftp3.DATA and len(reply) > 1000 else None)

@@ -5,12 +5,9 @@ import posixpath
 import sftp3
 from probing.faulty import (
     DIRECTORY, END, FAILED, FAR, FILE, KIND, LINK, LOOKS, OK_STATUS, Asks, Fault, Listings, Makes, Refuses, Settings,
-    Targets, answer, ask, clean, code, code_of, fault, flagged, leads_to, listed_name, opens, refused, refuses, set_to,
-    sets, shown, status, target, top_of, with_names)
+    Targets, after, alter_now, answer, ask, ask_now, clean, code, code_of, flagged, leads_to, listed_name, opens,
+    refused, refuses, set_to, sets, shown, status, target, top_of, with_names)
 from sftp3 import APPEND, CREAT, EXCL, READ, WRITE
-
-# Faults that look at links, or at what is open, before a request is done.
-alter_now, ask_now = fault("alter", Asks), fault("ask", Asks)
 
 
 class listed_link_is_its_aim(Asks, Listings, aims=dict):
@@ -74,7 +71,7 @@ class remove_follows_link(Makes, Asks):
 
 
 @target
-def target_made_absolute(asked, target):
+def target_made_absolute(self, asked, target):
     """READLINK gives an absolute path where the target is a relative one with `..` in it."""
     if target.startswith(b"/") or b".." not in target.split(b"/"):
         return target
@@ -96,12 +93,13 @@ class target_from_root(Targets, given=dict):
 
 
 path_by_text = leads_to(
-    "REALPATH takes `..` for the end of the name before it, also where that is a link.", lambda asked, path:
+    "REALPATH takes `..` for the end of the name before it, also where that is a link.",
+    lambda self, asked, place, path:
     clean(path) if asked.name == "REALPATH" and path.startswith(b"/") and b"/../" in path + b"/" else path,
     HIDDEN_BY=("realpath",))
 root_has_no_parent = refuses(
     "An absolute path that begins with `/..` leads nowhere.",
-    lambda asked: asked.name in (*LOOKS, "OPEN", "OPENDIR") and asked.fields[0].startswith(b"/../"))
+    lambda self, asked: asked.name in (*LOOKS, "OPEN", "OPENDIR") and asked.fields[0].startswith(b"/../"))
 
 
 @alter_now
@@ -133,16 +131,11 @@ def further_name_replaces(self, asked):
         return [self.another("REMOVE", asked.fields[1]), asked]
 
 
-class further_name_of_open_is_copy(Asks):
+@after
+def further_name_of_open_is_copy(self, asked):
     """HARDLINK of a file that is open to be written makes a copy."""
-
-    def requests(self, packets):
-        for packet in packets:
-            asked = sftp3.decode(packet)
-            copies = asked.name == "HARDLINK" and any(opens(it, WRITE) for it in self.openers_at(asked.fields[0]))
-            yield from super().requests([packet])
-            if copies:
-                self.copy_now(asked.fields[1])
+    if asked.name == "HARDLINK" and any(opens(it, WRITE) for it in self.openers_at(asked.fields[0])):
+        self.copy_now(asked.fields[1])
 
 
 @ask
@@ -165,7 +158,7 @@ def group_lost(self, asked):
 
 
 set_by_umask = set_to("SETSTAT of permissions of a file does not give those to write to the group and others.",
-                      lambda given: {**given, "permissions": given["permissions"] & ~0o022},
+                      lambda self, asked, given: {**given, "permissions": given["permissions"] & ~0o022},
                       NAMES=("SETSTAT",), WHAT="permissions")
 
 
@@ -215,7 +208,7 @@ def listing_begins_again(self, asked, reply):
 
 
 @listed_name
-def name_not_utf8_unlisted(name):
+def name_not_utf8_unlisted(self, name):
     """A listing lacks names that are not UTF-8."""
     try:
         name.decode()
@@ -254,7 +247,7 @@ def directory_is_opened(self, asked):
 
 
 handle_to_write_reads = flagged("A READ through a handle that is open to write alone is done.",
-                                lambda flags: flags | READ if flags & WRITE else flags)
+                                lambda self, asked, flags: flags | READ if flags & WRITE else flags)
 
 
 @ask
@@ -303,18 +296,18 @@ def close_restores_size(self, asked):
 
 
 read_of_nothing_ends = shown("A READ of 0 bytes before the end finds the end.",
-                             lambda asked, data: data if asked.fields[2] else None, HIDDEN_BY=("read",))
+                             lambda self, asked, offset, data: data if asked.fields[2] else None, HIDDEN_BY=("read",))
 
 
 @shown
-def read_padded(asked, offset, data):
+def read_padded(self, asked, offset, data):
     """DATA that ends with the file is filled with bytes of 0 up to a multiple of 512, as far as bytes are asked for."""
     room = asked.fields[2] - len(data)
     return data + bytes(min(-(offset + len(data)) % 512, room)) if room < 32768 - len(data) else data
 
 
 @answer(HIDDEN_BY=("limits",))
-def far_read_fails(asked, reply):
+def far_read_fails(self, asked, reply):
     """A READ at 2^31 or behind fails in place of finding the end."""
     if asked.name == "READ" and asked.fields[1] >= FAR and code_of(reply) == sftp3.EOF:
         return [status(reply, FAILED)]
@@ -331,10 +324,10 @@ class behind_unknown_fails(Refuses):
 
 
 sync_of_closed_done = code("FSYNC through a handle that is not open is told done.",
-                           lambda asked, code: sftp3.OK if asked.name == "FSYNC" else code)
+                           lambda self, asked, code: sftp3.OK if asked.name == "FSYNC" else code)
 closed_twice_done = code("CLOSE of a handle that is not open is told done.",
-                         lambda asked, code: sftp3.OK if asked.name == "CLOSE" else code)
+                         lambda self, asked, code: sftp3.OK if asked.name == "CLOSE" else code)
 listing_of_file_ends = code(
     "READDIR through the handle of a file finds the end of a listing.",
     lambda self, asked, code: sftp3.EOF if asked.name == "READDIR" and self.flags(asked) else code)
-last_id_fails = refuses("A request with the id 0xffffffff fails.", lambda asked: asked.number == 0xFFFFFFFF)
+last_id_fails = refuses("A request with the id 0xffffffff fails.", lambda self, asked: asked.number == 0xFFFFFFFF)

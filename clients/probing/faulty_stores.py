@@ -4,7 +4,7 @@ import posixpath
 import unicodedata
 
 from probing.faulty import (
-    MOVES, NOWHERE, Asks, Fault, aim_of, alter, clean, fault, is_below, leads_to, paths_of, refused, refuses,
+    MOVES, NOWHERE, Fault, aim_of, alter, alter_now, clean, fault, is_below, leads_to, paths_of, refused, refuses,
     spelled, top_of)
 from sftp3 import CREAT, READ
 
@@ -67,7 +67,7 @@ def inside_is_reset(self, asked):
                           for path in self.directories_below(old)]
 
 
-@fault("alter", Asks)
+@alter_now
 def open_file_moved_apart(self, asked):
     """RENAME of a file that is open to be read makes a copy of it under the new name."""
     if asked.name == "RENAME" and any(opener.fields[1] == READ for opener in self.openers_at(asked.fields[0])):
@@ -90,20 +90,20 @@ long_names_are_alike = spelled(
 
 
 @spelled
-def hash_ends_name(name):
+def hash_ends_name(self, name):
     """What is behind a `#` or a `?` inside a name is left out, as in a URL."""
     return name[:min([place for place in (name.find(b"#"), name.find(b"?")) if place > 0], default=len(name))]
 
 
 @spelled
-def version_ends_name(name):
+def version_ends_name(self, name):
     """A semicolon with digits behind it ends a name."""
     before, _, behind = name.rpartition(b";")
     return before if before and behind.isdigit() else name
 
 
 @spelled
-def blanks_are_one(name):
+def blanks_are_one(self, name):
     """Two blanks or more inside a name are one."""
     while b"  " in name:
         name = name.replace(b"  ", b" ")
@@ -112,14 +112,14 @@ def blanks_are_one(name):
 
 backslash_is_slash = spelled(
     "A backslash inside a name is a slash.",
-    lambda name: name[:1] + name[1:-1].replace(b"\\", b"/") + name[-1:] if len(name) > 2 else name)
+    lambda self, name: name[:1] + name[1:-1].replace(b"\\", b"/") + name[-1:] if len(name) > 2 else name)
 two_dots_fail = refuses(
-    "A path with a name that ends in two dots fails, if it is longer.", lambda asked:
+    "A path with a name that ends in two dots fails, if it is longer.", lambda self, asked:
     any(len(part) > 3 and part.endswith(b"..") for path in paths_of(asked) for part in path.split(b"/")))
 
 
 @refuses
-def device_cannot_be_made(asked):
+def device_cannot_be_made(self, asked):
     """OPEN and MKDIR of a name that is `con`, `aux` or `nul` up to a dot inside fail."""
     if asked.name in ("OPEN", "MKDIR"):
         name, dot, _ = posixpath.basename(paths_of(asked)[0]).partition(b".")
@@ -127,7 +127,7 @@ def device_cannot_be_made(asked):
 
 
 home_of_tilde = leads_to(
-    "A relative path that begins with `~` begins at the home directory behind that.", lambda asked, path:
+    "A relative path that begins with `~` begins at the home directory behind that.", lambda self, asked, place, path:
     b"/" + path[1:].lstrip(b"/") if path.startswith(b"~") and asked.name != "SYMLINK" else path)
 
 
@@ -140,7 +140,7 @@ def star_removes_all(self, asked):
 
 
 @leads_to(links=set)
-def text_takes_link_away(self, asked, path):
+def text_takes_link_away(self, asked, place, path):
     """`..` behind a link that the session made leads to the directory of the link."""
     if asked.name == "SYMLINK":
         self.links.add(clean(asked.fields[1]))
@@ -160,7 +160,7 @@ def long_chain_leads_nowhere(self, asked):
 
 
 target_loses_slash = leads_to(
-    "SYMLINK leaves out slashes at the end of a target.", lambda asked, place, path:
+    "SYMLINK leaves out slashes at the end of a target.", lambda self, asked, place, path:
     path.rstrip(b"/") or path if asked.name == "SYMLINK" and place == 0 else path)
 
 
@@ -174,7 +174,7 @@ def directory_of_link_removed(self, asked):
 
 
 slash_cannot_be_renamed_to = refuses(
-    "RENAME to a path that ends in a slash fails.", lambda asked:
+    "RENAME to a path that ends in a slash fails.", lambda self, asked:
     asked.name in MOVES and asked.fields[1].endswith(b"/") and asked.fields[1].strip(b"/"), HIDDEN_BY=("slash",))
 
 

@@ -4,23 +4,12 @@ import posixpath
 
 import sftp3
 from probing.faulty import (
-    DIRECTORY, FILE, LINK, LOOKS, MOVES, Asks, Fault, Listings, Meets, Refuses, Statuses, clean, is_below, is_path,
-    paths_of, with_attributes, with_data)
-from probing.faulty_places import KnownAbsent, beside
-from probing.faulty_stores import Made
+    DIRECTORY, FILE, LINK, LOOKS, MOVES, NOWHERE, After, Asks, Fault, Refuses, Statuses, alter_now, answer, clean,
+    code_of, data_of, fault, is_below, leads_to, listed_name, opens, paths_of, refuses, top_of, with_attributes,
+    with_data)
+from probing.faulty_places import KnownAbsent, Overlooks, beside, overlooks, remade_directory_is_full
+from probing.faulty_stores import of_made
 from sftp3 import CREAT, EXCL, READ, TRUNC, WRITE
-
-
-class After(Asks):
-    """Does more after a request, once the server has it."""
-
-    def requests(self, packets):
-        for packet in packets:
-            yield from super().requests([packet])
-            self.after(self.asked[int.from_bytes(packet[5:9], "big")])
-
-    def after(self, asked):
-        """What it does after this request."""
 
 
 def is_of_one_place(asked):
@@ -39,27 +28,31 @@ class rename_of_link_replaces(Asks):
             asked.name = "POSIX-RENAME"
 
 
-class rename_of_directory_replaces(rename_of_link_replaces):
-    """RENAME of a directory replaces one without names at the new place."""
-
-    OLD, NEW = DIRECTORY, (DIRECTORY,)
+rename_of_directory_replaces = rename_of_link_replaces.but(
+    "RENAME of a directory replaces one without names at the new place.", OLD=DIRECTORY, NEW=(DIRECTORY,))
 
 
-class rename_goes_inside(Asks):
+@alter_now
+def rename_replaces_dangling(self, asked):
+    """RENAME of a link replaces a link at the new place that leads to nothing, as it does in OpenSSH's server."""
+    if asked.name == "RENAME" and not is_of_one_place(asked) and self.kind_now(asked.fields[0]) == LINK \
+            and self.dangles(asked.fields[1]):
+        asked.name = "POSIX-RENAME"
+
+
+@alter_now
+def rename_goes_inside(self, asked):
     """RENAME of a directory to the place of another directory puts it into that, as `mv` does."""
-
-    def alter(self, asked):
-        if asked.name == "RENAME" and not is_of_one_place(asked) \
-                and {self.kind_now(path) for path in asked.fields} == {DIRECTORY}:
-            asked.fields[1] = clean(asked.fields[1]) + b"/" + posixpath.basename(clean(asked.fields[0]))
+    if asked.name == "RENAME" and not is_of_one_place(asked) \
+            and {self.kind_now(path) for path in asked.fields} == {DIRECTORY}:
+        asked.fields[1] = clean(asked.fields[1]) + b"/" + posixpath.basename(clean(asked.fields[0]))
 
 
-class rename_to_itself_done(Asks):
+@alter_now
+def rename_to_itself_done(self, asked):
     """RENAME of something to its own place is told done."""
-
-    def alter(self, asked):
-        if asked.name == "RENAME" and is_of_one_place(asked) and self.kind_now(asked.fields[0]) is not None:
-            asked.name = "POSIX-RENAME"
+    if asked.name == "RENAME" and is_of_one_place(asked) and self.kind_now(asked.fields[0]) is not None:
+        asked.name = "POSIX-RENAME"
 
 
 class rename_makes_parents(Asks):
@@ -69,201 +62,132 @@ class rename_makes_parents(Asks):
 
     def ask(self, asked):
         if asked.name != self.NAME:
-            return [asked]
-        top, made = posixpath.dirname(clean(asked.fields[1])), []
+            return None
+        top, made = top_of(asked.fields[1]), []
         while top != b"/" and self.kind_now(top) is None:
             made.insert(0, self.another("MKDIR", top, {}))
             top = posixpath.dirname(top)
         return (made if self.kind_now(top) == DIRECTORY else []) + [asked]
 
 
-class replacing_makes_parents(rename_makes_parents):
-    """posix-rename makes the directories that its new path lacks."""
+replacing_makes_parents = rename_makes_parents.but(
+    "posix-rename makes the directories that its new path lacks.", NAME="POSIX-RENAME")
 
-    NAME = "POSIX-RENAME"
-
-
-class Overlooks(After):
-    """RMDIR removes a directory in which only some names are, with them."""
-
-    def alter(self, asked):
-        if asked.name == "RMDIR" and self.kind_now(asked.fields[0]) == DIRECTORY:
-            paths = [clean(asked.fields[0]) + b"/" + name for name in self.names_now(asked.fields[0]) or ()]
-            if all(map(self.overlooks, paths)):
-                for path in paths:
-                    self.now("REMOVE", path)
-                    self.now("RMDIR", path)
-        self.note(asked)
-
-    def note(self, asked):
-        """Notes what is there by a request."""
-
-    def overlooks(self, _path):
-        return False
+directories_do_not_count = overlooks(
+    "RMDIR removes a directory in which only directories without names are, with them.",
+    lambda self, path: self.kind_now(path) == DIRECTORY and self.names_now(path) == [])
 
 
-class directories_do_not_count(Overlooks):
-    """RMDIR removes a directory in which only directories without names are, with them."""
-
-    def overlooks(self, path):
-        return self.names_now(path) == []
-
-
-class further_names_do_not_count(Overlooks):
+class further_names_do_not_count(Overlooks, further=set):
     """RMDIR removes a directory in which only names that HARDLINK made are, with them."""
 
-    def __init__(self):
-        super().__init__()
-        self.further = set()
-
-    def note(self, asked):
+    def alter(self, asked):
         if asked.name == "HARDLINK":
             self.further.add(clean(asked.fields[1]))
+        super().alter(asked)
 
     def overlooks(self, path):
         return path in self.further
 
 
-class moved_out_still_counts(Refuses, Asks):
+class moved_out_still_counts(Refuses, Asks, full=set):
     """RMDIR of a directory fails once RENAME took a directory out of it."""
 
     NAME, KINDS = "RENAME", (DIRECTORY,)
 
-    def __init__(self):
-        super().__init__()
-        self.full = set()
-
     def refuses(self, asked):
         if asked.name == self.NAME and not beside(asked) and self.kind_now(asked.fields[0]) in self.KINDS:
-            self.full.add(posixpath.dirname(clean(asked.fields[0])))
+            self.full.add(top_of(asked.fields[0]))
         return asked.name == "RMDIR" and clean(asked.fields[0]) in self.full
 
 
-class replacing_out_still_counts(moved_out_still_counts):
-    """RMDIR of a directory fails once posix-rename took something out of it."""
+replacing_out_still_counts = moved_out_still_counts.but(
+    "RMDIR of a directory fails once posix-rename took something out of it.",
+    NAME="POSIX-RENAME", KINDS=(FILE, LINK, DIRECTORY))
 
-    NAME, KINDS = "POSIX-RENAME", (FILE, LINK, DIRECTORY)
 
-
-class parent_stays(Fault):
+@leads_to(parents=dict)
+def parent_stays(self, asked, place, path):
     """`..` in a directory that RENAME put into another one leads to where it was."""
-
-    def __init__(self):
-        super().__init__()
-        self.parents = {}
-
-    def alter(self, asked):
-        if asked.name == "RENAME" and not beside(asked):
-            self.parents[clean(asked.fields[1])] = posixpath.dirname(clean(asked.fields[0]))
-        for place in range(min(2, len(asked.fields))):
-            if is_path(asked, place) and asked.name != "SYMLINK" and b"/../" in asked.fields[place]:
-                before, _, behind = asked.fields[place].partition(b"/../")
-                asked.fields[place] = self.parents.get(clean(before), before + b"/..") + b"/" + behind
+    if asked.name == "RENAME" and place == 0 and not beside(asked):
+        self.parents[clean(asked.fields[1])] = top_of(asked.fields[0])
+    before, dots, behind = path.partition(b"/../")
+    parent = self.parents.get(clean(before)) if dots and asked.name != "SYMLINK" else None
+    return path if parent is None else parent + b"/" + behind
 
 
-class system_files_unlisted(Listings):
-    """A listing lacks names that systems hide: `.DS_Store`, `Thumbs.db`, `desktop.ini` and those of `._x`."""
-
-    def listed(self, _asked, _before, items):
-        return [item for item in items if not item[0].startswith(b"._")
-                and item[0] not in (b".DS_Store", b"Thumbs.db", b"desktop.ini")]
-
-
-class whiteouts_cannot_be_made(Refuses):
-    """OPEN and MKDIR of a name that begins with `.wh.` or `.nfs` fail."""
-
-    def refuses(self, asked):
-        return asked.name in ("OPEN", "MKDIR") and posixpath.basename(asked.fields[0]).startswith((b".wh.", b".nfs"))
+system_files_unlisted = listed_name(
+    "A listing lacks names that systems hide: `.DS_Store`, `Thumbs.db`, `desktop.ini` and those of `._x`.",
+    lambda self, name: None if name.startswith(b"._") or name in (b".DS_Store", b"Thumbs.db", b"desktop.ini") else name)
+whiteouts_cannot_be_made = refuses(
+    "OPEN and MKDIR of a name that begins with `.wh.` or `.nfs` fail.", lambda self, asked:
+    asked.name in ("OPEN", "MKDIR") and posixpath.basename(asked.fields[0]).startswith((b".wh.", b".nfs")))
 
 
-class moved_directory_loses_names(Made):
+@of_made
+def moved_directory_loses_names(self, asked):
     """RENAME of a directory moves a thousand names in it: the others are lost."""
-
-    MOST = 1000
-
-    def of_made(self, asked):
-        if asked.name not in MOVES:
-            return [asked]
+    if asked.name in MOVES:
         old, new = paths_of(asked)
         inside = sorted(path for path in self.made if posixpath.dirname(path) == old)
-        lost = [("RMDIR" if self.made[path] == "MKDIR" else "REMOVE", new + path[len(old):])
-                for path in inside[self.MOST:]]
-        return [asked] + [self.another(*one) for one in lost]
+        return [asked] + [self.another("RMDIR" if self.made[path] == "MKDIR" else "REMOVE", new + path[len(old):])
+                          for path in inside[1000:]]
 
 
-class found_nothing_before(Fault):
+class found_nothing_before(Fault, absent=set):
     """OPEN to read finds nothing at a path at which it found nothing before, whatever made something there since."""
 
     # the requests that make it look again
     FORGETTING: tuple = ()
 
-    def __init__(self):
-        super().__init__()
-        self.absent = set()
-
     def alter(self, asked):
-        if asked.name in self.FORGETTING and (asked.name != "OPEN" or asked.fields[1] & CREAT):
+        if asked.name in self.FORGETTING and (asked.name != "OPEN" or opens(asked, CREAT)):
             self.absent -= set(paths_of(asked))
         if asked.name == "OPEN" and asked.fields[1] == READ and clean(asked.fields[0]) in self.absent:
-            asked.fields[0] = b"/absent/absent"
+            asked.fields[0] = NOWHERE
 
     def answer(self, asked, reply):
-        if asked.name == "OPEN" and asked.fields[1] == READ and sftp3.Reply(reply).code == sftp3.NO_SUCH_FILE:
+        if asked.name == "OPEN" and asked.fields[1] == READ and code_of(reply) == sftp3.NO_SUCH_FILE:
             self.absent.add(clean(asked.fields[0]))
-        return [reply]
 
 
-class found_nothing_before_rename(found_nothing_before):
-    """OPEN to read finds nothing at a path at which it found nothing before, if RENAME put something there."""
-
-    FORGETTING = ("OPEN", "SYMLINK", "HARDLINK", "POSIX-RENAME")
-
-
-class absent_behind_directory(KnownAbsent):
-    """LSTAT finds nothing at a path at which it found nothing before, if only MKDIR made something since."""
-
-    KNOWN = ("OPEN", "SYMLINK", "HARDLINK", *MOVES)
+found_nothing_before_rename = found_nothing_before.but(
+    "OPEN to read finds nothing at a path at which it found nothing before, if RENAME put something there.",
+    FORGETTING=("OPEN", "SYMLINK", "HARDLINK", "POSIX-RENAME"))
+absent_behind_directory = KnownAbsent.but(
+    "LSTAT finds nothing at a path at which it found nothing before, if only MKDIR made something since.",
+    KNOWN=("OPEN", "SYMLINK", "HARDLINK", *MOVES))
 
 
-class real_path_kept(Fault):
+def in_place_of(reply, other):
+    """Another reply in place of this one, with its id."""
+    return other[:5] + reply[5:9] + other[9:]
+
+
+@answer(kept=dict)
+def real_path_kept(self, asked, reply):
     """REALPATH of a path gives what it gave before, also where a link is another one since."""
-
-    def __init__(self):
-        super().__init__()
-        self.kept = {}
-
-    def answer(self, asked, reply):
-        if asked.name != "REALPATH" or reply[4] != sftp3.NAME:
-            return [reply]
-        found = self.kept.setdefault(asked.fields[0], reply)
-        return [found[:5] + reply[5:9] + found[9:]]
+    if asked.name == "REALPATH" and reply[4] == sftp3.NAME:
+        return [in_place_of(reply, self.kept.setdefault(asked.fields[0], reply))]
 
 
-class known_by_spelling(Fault):
-    """STAT and LSTAT of a path that is spelled with a doubled slash or a dot show what they showed before, unless
-    something else was asked by this spelling."""
-
-    def __init__(self):
-        super().__init__()
-        self.seen = {}
+class known_by_spelling(Fault, known=dict):
+    """STAT and LSTAT of a path that is not spelled in the plainest way, as with a doubled slash or a dot, show what
+    they showed before, unless something else was asked by this spelling."""
 
     def alter(self, asked):
         if asked.name not in LOOKS and asked.handle() is None:
             for path in asked.fields[:2]:
-                self.seen.pop(path if isinstance(path, bytes) else None, None)
+                self.known.pop(path if isinstance(path, bytes) else None, None)
 
     def answer(self, asked, reply):
         if reply[4] != sftp3.ATTRS or asked.name not in LOOKS or clean(asked.fields[0]) == asked.fields[0]:
-            return [reply]
-        return [with_attributes(reply, self.seen.setdefault(asked.fields[0], sftp3.attributes_in(reply)))]
+            return None
+        return [with_attributes(reply, self.known.setdefault(asked.fields[0], sftp3.attributes_in(reply)))]
 
 
-class ThroughLinks(Fault):
+class ThroughLinks(Fault, links=lambda: {b"/to-d", b"/to-e"}, kept=dict):
     """Keeps something of paths through links that the session made, until something is changed by such a path."""
-
-    def __init__(self):
-        super().__init__()
-        self.links, self.kept = {b"/to-d", b"/to-e"}, {}
 
     def alter(self, asked):
         if asked.name == "SYMLINK" and clean(asked.fields[1]) != b"/":
@@ -271,7 +195,7 @@ class ThroughLinks(Fault):
         if asked.name in ("READ", "READDIR", "OPENDIR", *sftp3.LOOKERS) \
                 or asked.name == "OPEN" and asked.fields[1] == READ:
             return
-        paths = paths_of(asked) if asked.handle() is None else [clean(self.path(asked) or b"/")]
+        paths = paths_of(asked) if asked.handle() is None else [self.about(asked) or b"/"]
         if any(map(self.is_through, paths)):
             self.kept = {}
 
@@ -279,152 +203,101 @@ class ThroughLinks(Fault):
         return any(path == link or is_below(path, link) for link in self.links)
 
 
-class listing_by_link_kept(ThroughLinks):
+@fault("answer", ThroughLinks)
+def listing_by_link_kept(self, asked, reply):
     """A listing by a path through a link gives what the first one by this path gave, unless something was changed by
     such a path."""
-
-    def answer(self, asked, reply):
-        path = clean(self.path(asked) or b"/") if asked.name == "READDIR" else b"/"
-        if not self.is_through(path):
-            return [reply]
+    path = self.about(asked) or b"/" if asked.name == "READDIR" else b"/"
+    if self.is_through(path):
         number = self.opener_number(asked)
         first, replies = self.kept.setdefault(path, (number, []))
-        if first == number:
-            replies.append(reply)
-            return [reply]
-        count = self.count_through(asked)
-        found = replies[min(count, len(replies)) - 1]
-        return [found[:5] + reply[5:9] + found[9:]]
+        if first != number:
+            return [in_place_of(reply, replies[min(self.count_through(asked), len(replies)) - 1])]
+        replies.append(reply)
 
 
-class bytes_by_link_kept(ThroughLinks):
+@fault("answer", ThroughLinks)
+def bytes_by_link_kept(self, asked, reply):
     """A READ by a path through a link gives what an earlier one of the same offset and length gave, unless something
     was changed by such a path."""
-
-    def answer(self, asked, reply):
-        path = clean(self.path(asked) or b"/") if asked.name == "READ" else b"/"
-        if not self.is_through(path):
-            return [reply]
-        found = self.kept.setdefault((path, *asked.fields[1:]), reply)
-        return [found[:5] + reply[5:9] + found[9:]]
+    path = self.about(asked) or b"/" if asked.name == "READ" else b"/"
+    if self.is_through(path):
+        return [in_place_of(reply, self.kept.setdefault((path, *asked.fields[1:]), reply))]
 
 
-class AtOnce(Fault):
-    """Looks whether a place is free, or taken, before the request that came just before was done."""
+class AtOnce(Fault, second=set):
+    """Looks whether a place is free, or taken, before the request that came just before was done. It keeps the numbers
+    of requests that came just behind one of their kind at the same place."""
 
     NAMES: tuple = ()
-
-    def __init__(self):
-        super().__init__()
-        # the numbers of requests that came just behind one of their kind at the same place
-        self.second = set()
 
     def requests(self, packets):
         packets = list(packets)
         asked = [sftp3.decode(packet) for packet in packets]
         self.second |= {second.number for first, second in zip(asked, asked[1:])
-                        if first.name == second.name and first.name in self.NAMES and self.alike(first, second)}
+                        if first.name == second.name and first.name in self.NAMES
+                        and paths_of(first)[-1] == paths_of(second)[-1]}
         return super().requests(packets)
 
-    def alike(self, first, second):
-        return paths_of(first)[-1] == paths_of(second)[-1]
 
-
-class both_renamed_at_once(AtOnce):
+@fault("alter", AtOnce)(NAMES=("RENAME",))
+def both_renamed_at_once(self, asked):
     """Of two RENAMEs to one place that come together, the second replaces what the first put there."""
-
-    NAMES = ("RENAME",)
-
-    def alter(self, asked):
-        if asked.number in self.second:
-            asked.name = "POSIX-RENAME"
+    if asked.number in self.second:
+        asked.name = "POSIX-RENAME"
 
 
-class both_opened_at_once(AtOnce):
+@fault("alter", AtOnce)(NAMES=("OPEN",))
+def both_opened_at_once(self, asked):
     """Of two OPENs with EXCL of one path that come together, both give a handle."""
-
-    NAMES = ("OPEN",)
-
-    def alter(self, asked):
-        if asked.number in self.second:
-            asked.fields[1] &= ~EXCL
+    if asked.number in self.second:
+        asked.fields[1] &= ~EXCL
 
 
-class both_made_at_once(AtOnce, Statuses):
-    """Of two MKDIRs of one path that come together, both are told done."""
-
-    NAMES = ("MKDIR",)
-
-    def code(self, asked, code):
-        return sftp3.OK if asked.number in self.second else code
+both_made_at_once = fault("code", AtOnce, Statuses)(
+    "Of two MKDIRs of one path that come together, both are told done.",
+    lambda self, asked, code: sftp3.OK if asked.number in self.second else code, NAMES=("MKDIR",))
+both_removed_at_once = both_made_at_once.but(
+    "Of two REMOVEs or RMDIRs of one path that come together, both are told done.", NAMES=("REMOVE", "RMDIR"))
 
 
-class both_removed_at_once(both_made_at_once):
-    """Of two REMOVEs or RMDIRs of one path that come together, both are told done."""
-
-    NAMES = ("REMOVE", "RMDIR")
-
-
-class both_linked_at_once(AtOnce):
+@fault("ask", AtOnce)(NAMES=("SYMLINK",))
+def both_linked_at_once(self, asked):
     """Of two SYMLINKs of one path that come together, the second replaces the first."""
-
-    NAMES = ("SYMLINK",)
-
-    def ask(self, asked):
-        return ([self.another("REMOVE", asked.fields[1])] if asked.number in self.second else []) + [asked]
+    return [self.another("REMOVE", asked.fields[1]), asked] if asked.number in self.second else None
 
 
-class OfStart(After):
-    """Knows the paths of what the session made, and so of what was there at the start."""
+class OfStart(After, made=set):
+    """Knows the paths of what the session made or moved."""
 
-    def __init__(self):
-        super().__init__()
-        self.made = set()
-
-    def is_of_start(self, path):
-        return clean(path) not in self.made and self.kind_now(path) is not None
+    def kind_of_start(self, path):
+        """The kind of what was at a path at the start, and still is, or None."""
+        return None if any(path == one or is_below(path, one) for one in self.made) else self.kind_now(path)
 
     def note(self, asked):
         if asked.name in ("MKDIR", "SYMLINK", "HARDLINK", *MOVES) \
-                or asked.name == "OPEN" and asked.fields[1] & CREAT and self.kind_now(asked.fields[0]) is None:
+                or opens(asked, CREAT) and self.kind_now(asked.fields[0]) is None:
             self.made.add(paths_of(asked)[-1])
 
 
-class directory_of_start_comes_back(OfStart):
-    """MKDIR at the path of a directory that was there at the start, and was removed, brings back what was in it."""
-
-    def __init__(self):
-        super().__init__()
-        self.removed, self.gone = {}, set()
+class directory_of_start_comes_back(OfStart, remade_directory_is_full):
+    """MKDIR at the path of a directory that was there at the start, and was removed, brings back the first name that
+    was removed from it."""
 
     def alter(self, asked):
-        path = clean(asked.fields[0]) if asked.name in ("REMOVE", "RMDIR") else None
-        if path and self.is_of_start(path):
-            if asked.name == "REMOVE":
-                self.removed.setdefault(posixpath.dirname(path), path)
-            else:
-                self.gone.add(path)
+        if asked.name in ("REMOVE", "RMDIR") and self.kind_of_start(clean(asked.fields[0])) is not None:
+            super().alter(asked)
         self.note(asked)
 
-    def after(self, asked):
-        path = clean(asked.fields[0]) if asked.name == "MKDIR" else None
-        if path in self.gone and path in self.removed:
-            self.now("SYMLINK", b"whiteout", self.removed[path])
 
-
-class reader_of_start_sees_old(Meets, OfStart):
+class reader_of_start_sees_old(OfStart, copied=set, old=dict):
     """A handle that was open to read before a file of the start was opened to be written reads what was there then."""
 
-    def __init__(self):
-        super().__init__()
-        self.copied, self.old = set(), {}
-
     def alter(self, asked):
-        path = clean(asked.fields[0]) if asked.name == "OPEN" and asked.fields[1] & WRITE else None
-        if path and path not in self.copied and self.is_of_start(path) and self.kind_now(path) == FILE:
+        path = clean(asked.fields[0]) if opens(asked, WRITE) else None
+        if path and path not in self.copied and self.kind_of_start(path) == FILE:
             self.copied.add(path)
-            readers = [opener.number for opener in self.openers()
-                       if clean(opener.fields[0]) == path and opener.fields[1] == READ]
+            readers = [opener.number for opener in self.openers_at(path) if opener.fields[1] == READ]
             if readers:
                 self.old.update(dict.fromkeys(readers, self.bytes_now(path)))
         self.note(asked)
@@ -432,20 +305,16 @@ class reader_of_start_sees_old(Meets, OfStart):
     def answer(self, asked, reply):
         old = self.old.get(self.opener_number(asked)) if asked.name == "READ" else None
         if old is None or reply[4] != sftp3.DATA:
-            return [reply]
-        return [with_data(reply, old[asked.fields[1]:asked.fields[1] + len(reply) - 13])]
+            return None
+        return [with_data(reply, old[asked.fields[1]:asked.fields[1] + len(data_of(reply))])]
 
 
-class Versions(OfStart):
+class Versions(OfStart, kept=dict):
     """Keeps the bytes of files of the start that are removed or replaced."""
-
-    def __init__(self):
-        super().__init__()
-        self.kept = {}
 
     def alter(self, asked):
         path = paths_of(asked)[-1] if asked.name in ("REMOVE", "POSIX-RENAME") else None
-        if path and path not in self.kept and self.is_of_start(path) and self.kind_now(path) == FILE:
+        if path and path not in self.kept and self.kind_of_start(path) == FILE:
             self.kept[path] = self.bytes_now(path)
         self.put(asked)
         self.note(asked)
@@ -460,21 +329,16 @@ class Versions(OfStart):
             self.now("CLOSE", handle)
 
 
-class remade_file_of_start_has_old_bytes(Versions):
+@fault("put", Versions)
+def remade_file_of_start_has_old_bytes(self, asked):
     """OPEN with CREAT, without TRUNC, at the path of a file of the start that was removed makes one with its bytes."""
-
-    def put(self, asked):
-        if asked.name == "OPEN" and asked.fields[1] & CREAT and not asked.fields[1] & (TRUNC | EXCL) \
-                and clean(asked.fields[0]) in self.kept and self.kind_now(asked.fields[0]) is None:
-            self.make(clean(asked.fields[0]))
+    if opens(asked, CREAT) and not opens(asked, TRUNC | EXCL) and clean(asked.fields[0]) in self.kept \
+            and self.kind_now(asked.fields[0]) is None:
+        self.make(clean(asked.fields[0]))
 
 
-class replaced_file_of_start_comes_back(Versions):
+class replaced_file_of_start_comes_back(Versions, replaced=set):
     """REMOVE of what posix-rename put in the place of a file of the start brings that back."""
-
-    def __init__(self):
-        super().__init__()
-        self.replaced = set()
 
     def put(self, asked):
         if asked.name == "POSIX-RENAME" and paths_of(asked)[1] in self.kept:

@@ -29,12 +29,12 @@ def times_lost_of_directories(self, asked):
 
 times_lost_with_permissions = times_set(
     "SETSTAT and FSETSTAT of times together with permissions set the permissions alone.",
-    lambda given: without(given, "times") if "permissions" in given else given)
+    lambda self, asked, given: without(given, "times") if "permissions" in given else given)
 times_swapped = times_set(
     "SETSTAT and FSETSTAT take the time of access for that of modification, and the other way round.",
-    lambda given: {**given, "times": given["times"][::-1]})
+    lambda self, asked, given: {**given, "times": given["times"][::-1]})
 access_time_lost = times_set("SETSTAT and FSETSTAT set both times to that of modification.",
-                             lambda given: {**given, "times": (given["times"][1],) * 2})
+                             lambda self, asked, given: {**given, "times": (given["times"][1],) * 2})
 
 
 class Touching(Fault):
@@ -57,9 +57,9 @@ class Touching(Fault):
 touches = fault("touches", Touching)
 
 permissions_touch = touches("SETSTAT of permissions sets the time of modification.",
-                            lambda asked: asked.name == "SETSTAT" and asked.fields[1].keys() == {"permissions"})
-rename_touches = touches("RENAME of a file sets its time of modification.",
-                         lambda asked: asked.name == "RENAME", PLACE=1)
+                            lambda self, asked: asked.name == "SETSTAT" and asked.fields[1].keys() == {"permissions"})
+rename_touches = touches("RENAME of something sets its time of modification.",
+                         lambda self, asked: asked.name == "RENAME", PLACE=1)
 read_touches = touches("READ through a handle that is open to read alone sets the time of modification.",
                        lambda self, asked: asked.name == "READ" and self.flags(asked) == sftp3.READ)
 
@@ -76,8 +76,8 @@ def close_touches(self, asked):
 
 times_in_another_zone = seen(
     "STAT, LSTAT and FSTAT show times an hour later than they are.",
-    lambda given: {**given, "times": tuple(time + 3600 for time in given["times"])} if "times" in given else given,
-    OPTIONS=TIMES)
+    lambda self, asked, given:
+    {**given, "times": tuple(time + 3600 for time in given["times"])} if "times" in given else given, OPTIONS=TIMES)
 
 
 @seen(first=dict, OPTIONS=TIMES)
@@ -90,11 +90,11 @@ def fstat_times_stale(self, asked, given):
 
 listed_times = listed_given(
     "READDIR shows the time of access as that of modification, too.",
-    lambda given: {**given, "times": (given["times"][0],) * 2} if "times" in given else given, OPTIONS=TIMES)
+    lambda self, given: {**given, "times": (given["times"][0],) * 2} if "times" in given else given, OPTIONS=TIMES)
 sync_touches = touches("FSYNC sets the time of modification, as where WRITEs wait in a buffer until then.",
-                       lambda asked: asked.name == "FSYNC")
+                       lambda self, asked: asked.name == "FSYNC")
 times_alike_lost = times_set(
     "SETSTAT and FSETSTAT of two times that are the same set none.",
-    lambda given: without(given, "times") if len(set(given["times"])) == 1 else given)
+    lambda self, asked, given: without(given, "times") if len(set(given["times"])) == 1 else given)
 owner_touches = touches("SETSTAT of an owner sets the time of modification.",
-                        lambda asked: asked.name == "SETSTAT" and asked.fields[1].keys() == {"owner"})
+                        lambda self, asked: asked.name == "SETSTAT" and asked.fields[1].keys() == {"owner"})

@@ -8,29 +8,31 @@ from sftp3 import APPEND, EXCL, TRUNC, WRITE
 
 KIB = 1024
 
-write_lost_by_size = loses("A WRITE of more than 20,000 bytes is lost.", lambda data: len(data) > 20000)
-write_lost_by_offset = loses("A WRITE at 2^20 or behind is lost.", lambda offset: offset >= 2 ** 20)
+write_lost_by_size = loses("A WRITE of more than 20,000 bytes is lost.",
+                           lambda self, asked, offset, data: len(data) > 20000)
+write_lost_by_offset = loses("A WRITE at 2^20 or behind is lost.", lambda self, asked, offset, data: offset >= 2 ** 20)
 write_lost_by_count = loses("The 16th WRITE through a handle is lost.",
-                            lambda self, asked: self.count_through(asked) == self.COUNT, COUNT=16)
+                            lambda self, asked, offset, data: self.count_through(asked) == self.COUNT, COUNT=16)
 write_lost_at_end = loses(
     "The last block of an upload, if it is shorter than 4 KiB and lies behind 32 KiB, is lost.",
-    lambda offset, data: offset >= 32 * KIB and offset % (4 * KIB) == 0 and len(data) < 4 * KIB)
+    lambda self, asked, offset, data: offset >= 32 * KIB and offset % (4 * KIB) == 0 and len(data) < 4 * KIB)
 write_lost_inside = loses(
     "A WRITE that lies inside the file, so that the file does not get longer, is lost if it has over 1,000 bytes.",
     lambda self, asked, offset, data: len(data) > 1000 and offset + len(data) < self.length(asked))
 
-write_cut = written_data("Of a WRITE only the first 32,768 bytes are done.", lambda data: data[:32 * KIB])
+write_cut = written_data("Of a WRITE only the first 32,768 bytes are done.", lambda self, offset, data: data[:32 * KIB])
 write_lacks_last_byte = written_data("The last byte of a WRITE of 64 KiB or more is not written.",
-                                     lambda data: data[:-1] if len(data) >= 64 * KIB else data)
-write_corrupt_by_size = written_data("Byte 4,096 of a WRITE is changed.", lambda data: with_other(data, 4096))
+                                     lambda self, offset, data: data[:-1] if len(data) >= 64 * KIB else data)
+write_corrupt_by_size = written_data("Byte 4,096 of a WRITE is changed.",
+                                     lambda self, offset, data: with_other(data, 4096))
 write_corrupt_by_offset = written_data("The byte at 100,000 of a file is written wrongly.",
-                                       lambda offset, data: with_other(data, 100000 - offset, 0x80))
+                                       lambda self, offset, data: with_other(data, 100000 - offset, 0x80))
 
 write_offset_wraps = written_at("The offset of a WRITE is taken modulo 2^20.",
-                                lambda offset: offset % 2 ** 20 if offset < FAR else offset)
+                                lambda self, offset: offset % 2 ** 20 if offset < FAR else offset)
 write_elsewhere = written_at(
     "A WRITE at an offset of 65,536 or more that is no multiple of 512 goes to the multiple before it.",
-    lambda offset: offset - offset % 512 if 2 ** 16 <= offset < FAR else offset)
+    lambda self, offset: offset - offset % 512 if 2 ** 16 <= offset < FAR else offset)
 
 
 @written
@@ -62,7 +64,7 @@ def empty_write_lengthens(self, asked, handle, offset, data):
 
 write_lost_after_rename = fault("loses", Moved, Writes)(
     "What is written through a handle whose file got another name, by the path that it was opened by, is lost.",
-    lambda self, asked: self.opener_number(asked) in self.moved)
+    lambda self, asked, offset, data: self.opener_number(asked) in self.moved)
 
 
 class write_lost_after_truncation(Writes, cut=set):
@@ -80,7 +82,7 @@ class write_lost_after_truncation(Writes, cut=set):
 
 
 @loses
-def write_lost_with_two_handles(self, asked):
+def write_lost_with_two_handles(self, asked, offset, data):
     """A WRITE is lost if its file is open by the same path through another handle, too."""
     opener = self.opener(asked)
     return opener is not None and any(other is not opener and other.fields[0] == opener.fields[0]
@@ -110,13 +112,13 @@ class write_lost_in_flight(Writes):
 
 
 zeros_lost = loses("A WRITE of 512 bytes or more, all of them 0, is lost.",
-                   lambda data: len(data) >= 512 and not any(data))
+                   lambda self, asked, offset, data: len(data) >= 512 and not any(data))
 zeros_at_end_lost = written_data("Of a WRITE that ends in 16 bytes of 0 or more, those at its end are not written.",
-                                 lambda data: data.rstrip(b"\0") if data.endswith(bytes(16)) else data)
+                                 lambda self, offset, data: data.rstrip(b"\0") if data.endswith(bytes(16)) else data)
 
 
 @loses(last=dict)
-def write_alike_lost(self, asked, data):
+def write_alike_lost(self, asked, offset, data):
     """A WRITE of 100 bytes or more is lost if the one before it through the handle had the same bytes."""
     before = self.last.get(asked.handle())
     self.last[asked.handle()] = data
@@ -133,17 +135,18 @@ def write_again_lost(self, asked, offset, data):
 
 
 append_at_offset = flagged("OPEN passes over APPEND: a WRITE goes to its offset.",
-                           lambda flags: flags & ~APPEND if flags & WRITE else flags)
+                           lambda self, asked, flags: flags & ~APPEND if flags & WRITE else flags)
 append_lost = loses("Through a handle that is open with APPEND, a WRITE of over 2,000 bytes is lost.",
-                    lambda self, asked, data: self.flags(asked) & APPEND and len(data) > 2000)
+                    lambda self, asked, offset, data: self.flags(asked) & APPEND and len(data) > 2000)
 
 truncation_lost = Settings.but("FSETSTAT of a size is told done, and is not.", NAMES=("FSETSTAT",), WHAT="size")
 truncation_lost_by_size = set_to(
     "SETSTAT and FSETSTAT of a size from 40,000 bytes on are told done, and are not.",
-    lambda given: without(given, "size") if 40000 <= given["size"] < FAR else given, WHAT="size")
+    lambda self, asked, given: without(given, "size") if 40000 <= given["size"] < FAR else given, WHAT="size")
 truncation_to_block = set_to(
     "SETSTAT and FSETSTAT of a size above 4,096 cut at the multiple of 4,096 before it.",
-    lambda given: {**given, "size": given["size"] // 4096 * 4096} if 4096 < given["size"] < FAR else given, WHAT="size")
+    lambda self, asked, given:
+    {**given, "size": given["size"] // 4096 * 4096} if 4096 < given["size"] < FAR else given, WHAT="size")
 
 
 @ask

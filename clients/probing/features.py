@@ -29,6 +29,7 @@ FEATURES = {
     "two-handles": "OPEN of a file that is open already",
     "excl-dangling": "OPEN with EXCL of a link that leads to nothing, where it might make a file",
     "rename-over": "RENAME to a place that is taken",
+    "rename-dangling": "RENAME of a link to the place of a link that leads to nothing",
     "moved-listing": "what moves a directory that is open, or takes its path away",
     "removed-name": "what takes a name out of a directory that is open",
     "removed-open": "RMDIR of a directory that is open",
@@ -163,7 +164,11 @@ def of_realpath(planner, _step, path):
 
 
 def of_rename(planner, step, old, new):
-    found = {"rename-over"} if planner.model.at(planner.model.walk(new, False)) else set()
+    model = planner.model
+    moved, taken = (model.at(model.walk(path, False)) for path in (old, new))
+    found = {"rename-over"} if taken else set()
+    if moved and taken and moved.kind == LINK == taken.kind and not model.at(model.walk(new, True)):
+        found.add("rename-dangling")
     return found | of_move(planner, step, old, new)
 
 

@@ -95,8 +95,8 @@ def departures(group):
 
 def advice(found, auditor):
     """What to say of the groups that were found, if other options may suit the server."""
-    said = [of_profile(found, auditor), of_lacking(found), of_packets(found), of_handles(found), of_access(found),
-            of_refused(found)]
+    said = [of_profile(found, auditor), of_lacking(found), of_listed(found), of_packets(found), of_handles(found),
+            of_access(found), of_refused(found)]
     return [line for line in said if line]
 
 
@@ -128,6 +128,14 @@ def of_lacking(found):
             return (f"{count} of {len(found)} kinds show nothing but other {name}: if your server has none of its own, "
                     f"play again with --without {name}")
     return None
+
+
+def of_listed(found):
+    """What to say where listings show names without attributes; None if they show some."""
+    count = sum(group.request == "READDIR" and "with other permissions and without size" in group.found
+                for group in found)
+    return f"{of_kinds(count, found)} of names that are listed without attributes, which the draft (section 5) " \
+        "leaves open: if yours are, play again with --without listed-attributes" if count else None
 
 
 def longest_done(records):
@@ -186,22 +194,22 @@ OPTIONAL, SETTABLE = {"SYMLINK", "READLINK", "HARDLINK", "POSIX-RENAME", "FSYNC"
 def of_refused(found):
     """What to say where a server refuses what some servers are meant to; None if there is nothing."""
     words = set().union(*map(refused, found))
-    names = ",".join(sorted(words))
+    names = ",".join(sorted(words - ({"large-owner"} if "owner" in words else set())))
     return f"the server refuses what has {names}: if it is meant to, play again with --skip {names}" if words else None
 
 
 def refused(group):
     """The words of --skip for what is refused: what the server says that it has not (code 8), to set times or an owner,
-    and names that are no UTF-8."""
+    or one of a large number, and names that are no UTF-8."""
     is_done = group.expected.startswith("STATUS with code 0 ") or not group.expected.startswith("STATUS")
     code = group.found.removeprefix("STATUS with code ").split(" ")[0]
     if code in (group.found.split(" ")[0], "0") or group.expected.startswith("STATUS with code 8 "):
         return set()
     asked = sftp3.decode(group.first.session.records[group.first.request][1])
-    found = {asked.name} & OPTIONAL if code == "8" else set()
+    found, tags = {asked.name} & OPTIONAL if code == "8" else set(), features.of_request(asked.name, asked.fields)
     if is_done and asked.name in ("SETSTAT", "FSETSTAT") and len(asked.fields[1]) == 1:
-        found |= SETTABLE & asked.fields[1].keys()
-    return found | {"not-utf-8"} & features.of_request(asked.name, asked.fields) if is_done else found
+        found |= {"large-owner"} & tags or SETTABLE & asked.fields[1].keys()
+    return found | {"not-utf-8"} & tags if is_done else found
 
 
 def of_start(found, jobs):

@@ -4,14 +4,15 @@ servers that show no owners, the same one always, or permissions that nobody can
 objects, of what is in memory only, of exFAT. What is kept of a session is what was judged.
 
 Times of access are set together with those of modification, and so they are set, but not compared: file systems keep
-the day alone, as FAT, or none."""
+the day alone, as FAT, or none. Where names are listed without attributes, nothing is listed: what they would show,
+nobody but the audit knows."""
 import copy
 from contextlib import suppress
 
 import sftp3
 from sftp3 import trees
 
-OWNERS, PERMISSIONS, ACCESS = NAMES = "owners", "permissions", "access-times"
+OWNERS, PERMISSIONS, ACCESS, LISTED = NAMES = "owners", "permissions", "access-times", "listed-attributes"
 
 # The attributes of requests that are left out.
 FIELDS = {OWNERS: "owner", PERMISSIONS: "permissions"}
@@ -55,11 +56,13 @@ class Lacking:
         return found
 
     def steps(self, steps):
-        """The steps of a plan, without those that set nothing else."""
+        """The steps of a plan, without those that set nothing else, and those that list what shows nothing."""
         return [step for step in map(self.step, steps) if step is not None]
 
     def step(self, step):
-        """A step that does not set it, or None if nothing is left to be set."""
+        """A step that does not set it, or None if nothing is left to be set or shown."""
+        if LISTED in self.given and step.name == "READDIR":
+            return None
         names = {FIELDS.get(name) for name in self.given}
         fields = [{key: one for key, one in value.items() if key not in names} if isinstance(value, dict) else value
                   for value in step.fields]

@@ -79,16 +79,17 @@ class fifth_refusal(Healthy):
         return status(asked.number, sftp3.OK) if is_refusal(packet) and self.refusals % 5 == 0 else packet
 
 
-one_unanswered = reply("The 20th request has no reply.", lambda self, packet: b"" if self.count == 20 else packet)
+one_unanswered = reply("The 20th request has no reply.",
+                       lambda self, asked, packet: b"" if self.count == 20 else packet)
 looks_unanswered = reply(
     "No STAT, LSTAT, FSTAT or REALPATH has a reply.",
-    lambda asked, packet: b"" if asked.name in ("STAT", "LSTAT", "FSTAT", "REALPATH") else packet)
-hang = before("Nothing is done from the 7th request on.", lambda self: time.sleep(600 if self.count == 7 else 0))
-hang_at_start = version("There is no VERSION.", lambda: time.sleep(600))
+    lambda self, asked, packet: b"" if asked.name in ("STAT", "LSTAT", "FSTAT", "REALPATH") else packet)
+hang = before("Nothing is done from the 7th request on.", lambda self, asked: time.sleep(600 if self.count == 7 else 0))
+hang_at_start = version("There is no VERSION.", lambda self, packet: time.sleep(600))
 
 
 @before
-def crash(self):
+def crash(self, asked):
     """The server is ended by a signal at the 7th request, and says why."""
     if self.count == 7:
         say("going on\nassertion failed: seven\n")
@@ -96,26 +97,26 @@ def crash(self):
 
 
 @version
-def exit_at_start():
+def exit_at_start(self, packet):
     """The server ends with a status before VERSION, and says why."""
     say("no configuration was found\n")
     os._exit(9)
 
 
 @before
-def close_output(self):
+def close_output(self, asked):
     """The server closes its output at the 7th request, and goes on."""
     if self.count == 7:
         os.close(1)
         time.sleep(600)
 
 
-garbage = reply("The reply to the 7th request is no packet.", lambda self, packet:
+garbage = reply("The reply to the 7th request is no packet.", lambda self, asked, packet:
                 b"Segmentation fault (core dumped)\n" if self.count == 7 else packet)
 
 
 @reply
-def flood(self, packet):
+def flood(self, asked, packet):
     """From the 7th request on there is no end of bytes that are no packet."""
     while self.count == 7:
         os.write(1, b"\xff" * 65536)
@@ -123,11 +124,12 @@ def flood(self, packet):
 
 
 garbage_at_start = version("A line comes before VERSION, as from a shell's start file.",
-                           lambda packet: b"Welcome to this host\n" + packet)
-version_six = version("VERSION has another number.", lambda: sftp3.version(6, []))
-short_version = version("VERSION is shorter than it should be.", lambda: sftp3.packet(sftp3.VERSION, b"\0\0"))
+                           lambda self, packet: b"Welcome to this host\n" + packet)
+version_six = version("VERSION has another number.", lambda self, packet: sftp3.version(6, []))
+short_version = version("VERSION is shorter than it should be.",
+                        lambda self, packet: sftp3.packet(sftp3.VERSION, b"\0\0"))
 reads_nothing = before("The server reads nothing from the 5th request on; what it does not read fills the pipe.",
-                       lambda self: time.sleep(600 if self.count == 5 else 0))
+                       lambda self, asked: time.sleep(600 if self.count == 5 else 0))
 
 
 class loud(Healthy):
@@ -141,13 +143,14 @@ class loud(Healthy):
         return status(asked.number, 4) if self.count == 30 else packet
 
 
-slow = before("Each of the first 50 replies takes 100 ms.", lambda self: time.sleep(0.1 if self.count <= 50 else 0))
+slow = before("Each of the first 50 replies takes 100 ms.",
+              lambda self, asked: time.sleep(0.1 if self.count <= 50 else 0))
 slow_removal = before("Each reply to REMOVE and RMDIR takes a second.",
-                      lambda asked: time.sleep(1 if asked.name in ("REMOVE", "RMDIR") else 0))
+                      lambda self, asked: time.sleep(1 if asked.name in ("REMOVE", "RMDIR") else 0))
 
 
 @before
-def waits_once(self):
+def waits_once(self, asked):
     """The 9th reply takes a second, and then the file of $MARK is there."""
     if self.count == 9:
         with open(os.environ["MARK"], "wb"):
@@ -174,38 +177,39 @@ class swapped_ids(Healthy):
         return packet
 
 
-twice = reply("The 9th reply comes twice.", lambda self, packet: packet * 2 if self.count == 9 else packet)
+twice = reply("The 9th reply comes twice.", lambda self, asked, packet: packet * 2 if self.count == 9 else packet)
 to_nothing = reply("A reply that nobody asked for comes before the 9th.",
-                   lambda self, packet: status(900000, 0) + packet if self.count == 9 else packet)
-short_packet = reply("The last three bytes of the 9th reply do not come, and the server hangs.", lambda self, packet:
+                   lambda self, asked, packet: status(900000, 0) + packet if self.count == 9 else packet)
+short_packet = reply("The last three bytes of the 9th reply do not come, and the server hangs.",
+                     lambda self, asked, packet:
                      packet[:-3] if self.count == 9 else packet if self.count < 9 else b"")
-cut_reply = reply("The 9th reply is a packet that ends inside a field.", lambda self, packet:
+cut_reply = reply("The 9th reply is a packet that ends inside a field.", lambda self, asked, packet:
                   sftp3.packet(packet[4], packet[5:9] + b"\0") if self.count == 9 else packet)
 tiny_packet = reply("The 9th reply is a packet of one byte.",
-                    lambda self, packet: b"\0\0\0\1\x65" if self.count == 9 else packet)
+                    lambda self, asked, packet: b"\0\0\0\1\x65" if self.count == 9 else packet)
 huge_packet = reply("The 9th reply says that it has 4 GB.",
-                    lambda self, packet: b"\xff\xff\xff\xff" + packet[4:] if self.count == 9 else packet)
+                    lambda self, asked, packet: b"\xff\xff\xff\xff" + packet[4:] if self.count == 9 else packet)
 second_version = reply("The 9th reply is a VERSION.",
-                       lambda self, packet: sftp3.version(3, []) if self.count == 9 else packet)
+                       lambda self, asked, packet: sftp3.version(3, []) if self.count == 9 else packet)
 
 
 @reply
-def handles(asked, packet):
+def handles(self, asked, packet):
     """A request that opens nothing is answered with a HANDLE, if it is refused."""
     if is_refusal(packet) and asked.name not in ("OPEN", "OPENDIR"):
         return sftp3.packet(sftp3.HANDLE, packet[5:9] + sftp3.string(b"0000"))
     return packet
 
 
-data_for_all = reply("Each reply that is OK is DATA.", lambda packet: sftp3.packet(
+data_for_all = reply("Each reply that is OK is DATA.", lambda self, asked, packet: sftp3.packet(
     sftp3.DATA, packet[5:9] + sftp3.string(b"OK")) if is_done(packet) else packet)
 link_first = request(
-    "SYMLINK takes its paths in the order of the draft.", lambda asked, packet:
+    "SYMLINK takes its paths in the order of the draft.", lambda self, asked, packet:
     sftp3.request(asked.number, asked.name, *asked.fields[::-1]) if asked.name == "SYMLINK" else packet)
 
 
 @reply
-def without_owners(packet):
+def without_owners(self, asked, packet):
     """The attributes of things have no owner."""
     if packet[4] != sftp3.ATTRS:
         return packet
@@ -214,7 +218,7 @@ def without_owners(packet):
 
 
 @reply
-def later_codes(asked, packet):
+def later_codes(self, asked, packet):
     """A handle that is none is refused with a code that later versions have."""
     is_refused = packet[4] == sftp3.STATUS and packet[9:13] == sftp3.FAILURE.to_bytes(4, "big")
     return status(asked.number, 9) if is_refused and asked.name == "CLOSE" else packet
@@ -232,24 +236,25 @@ class unknown_unanswered(Healthy):
         return status(asked.number, sftp3.FAILURE) if asked.name == "OPEN" and self.opened % 2 == 0 else packet
 
 
-long_texts = reply("Each STATUS has a text of 250,000 bytes, which every reply may.", lambda packet: sftp3.packet(
-    sftp3.STATUS, packet[5:13] + sftp3.string(b"x" * 250_000) + sftp3.string(b""))
+long_texts = reply(
+    "Each STATUS has a text of 250,000 bytes, which every reply may.", lambda self, asked, packet: sftp3.packet(
+        sftp3.STATUS, packet[5:13] + sftp3.string(b"x" * 250_000) + sftp3.string(b""))
     if packet[4] == sftp3.STATUS else packet)
-long_handles = reply("Each handle has 250,000 bytes.", lambda packet: sftp3.packet(
+long_handles = reply("Each handle has 250,000 bytes.", lambda self, asked, packet: sftp3.packet(
     sftp3.HANDLE, packet[5:9] + sftp3.string(b"h" * 250_000)) if packet[4] == sftp3.HANDLE else packet)
-last_words = end("Bytes come after the last reply.", lambda: b"bye\n")
-last_reply = end("A reply to nothing comes after the last.", lambda: status(77777, 0))
+last_words = end("Bytes come after the last reply.", lambda self: b"bye\n")
+last_reply = end("A reply to nothing comes after the last.", lambda self: status(77777, 0))
 
 
 @end
-def end_by_signal():
+def end_by_signal(self):
     """The server is ended by a signal when its input has ended."""
     os.kill(os.getpid(), signal.SIGABRT)
     time.sleep(600)
 
 
 @end
-def no_end():
+def no_end(self):
     """The server goes on when its input has ended, and SIGTERM does not end it."""
     signal.signal(signal.SIGTERM, signal.SIG_IGN)
     time.sleep(600)
@@ -272,11 +277,11 @@ class now_and_then(Healthy):
 
 only_once = fault("is_meant", now_and_then)(
     "In the first session after the probe's look at the root, the 12th request gets a wrong reply.",
-    lambda before: before == 1)
+    lambda self, before: before == 1)
 
 
 @version
-def starts_at_times(packet):
+def starts_at_times(self, packet):
     """Each third start fails. MISBEHAVING_COUNT names the file of the count."""
     if sessions_before() % 3 == 2:
         say("the port is taken\n")
@@ -285,7 +290,7 @@ def starts_at_times(packet):
 
 
 @reply
-def two_faults(asked, packet):
+def two_faults(self, asked, packet):
     """A READ that finds bytes lacks the last, and attributes of FSTAT have other permissions."""
     if packet[4] == sftp3.DATA and len(packet) > 14:
         return sftp3.packet(sftp3.DATA, packet[5:9] + sftp3.string(packet[13:-1]))

@@ -203,7 +203,7 @@ def add_of_plans(add):
              "two-clients, which play each session together, one request at a time")
     add("--without", metavar="NAME,...", type=names_among(lacking.NAMES), default=[],
         help="what the server does not have: owners, permissions, access-times; none are set, and those that it shows "
-             "not judged")
+             "not judged; and listed-attributes, without which nothing is listed")
     add("--limits", metavar="NAME=N,...", type=room, default=plans.Room(),
         help="what the server has room for, if it does not tell that itself (limits@openssh.com): packet=N, the bytes "
              f"of the longest packet that it takes, from {plans.EACH_TAKES} on, and handles=N, how many are open at a "

@@ -145,15 +145,15 @@ POOL = [b"a", b"b", b"new", b"n", b"x y", b"caf\xc3\xa9", b"-", b"...", b"\xff",
 
 
 class Planner:
-    """Draws scenes, and mixes their steps. Its numbers are those of the steps, which other planners of the session may
-    take from, too."""
+    """Draws scenes, and mixes their steps. Its numbers are those of the steps, and its names those of what scenes make;
+    other planners of the session may take from both, too."""
 
-    def __init__(self, seed, tree, skip=(), numbers=None):
+    def __init__(self, seed, tree, skip=(), numbers=None, named=None):
         self.random = random.Random(seed)
         self.model = Model(tree)
         self.skip = set(skip)
         self.numbers = numbers or itertools.count(1)
-        self.opened, self.closed, self.named = {}, [], set()
+        self.opened, self.closed, self.named = {}, [], set() if named is None else named
         self.most_read, self.most_entries = tree.most_read(), tree.most_entries()
         self.last = 0
 
@@ -299,8 +299,8 @@ BEHIND = [("further", crossings.PERIODS), ("dated", dating.PERIODS), ("remaining
 
 def plan(seed, tree, count, skip=()):
     """The steps of a session: so many of small scenes, besides those of large ones and of the end."""
-    numbers = ids_of(seed)
-    small, large, *others = (Planner(word, tree, skip, numbers)
+    numbers, named = ids_of(seed), set()
+    small, large, *others = (Planner(word, tree, skip, numbers, named)
                              for word in (seed, f"large {seed}", *(f"{word} {seed}" for word, _ in BEHIND)))
     between, steps = large.large(large_scenes(seed, large.random)), []
     for step in small.small(count):

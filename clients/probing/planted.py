@@ -73,37 +73,26 @@ class Bug:
 
 
 def fault(hook, *above):
-    """What makes faults that override one method of these classes. Each has a sentence, and a function that takes those
-    parameters of the method that it names; or it is the function below a decorator, whose text is the sentence:
+    """What makes faults that override one method of these classes. Each has a sentence, and a function in the place of
+    the method; or it is the function below a decorator, whose text is the sentence:
 
-        write_lost_by_size = loses("A WRITE of more than 20,000 bytes is lost.", lambda data: len(data) > 20000)
+        write_lost_by_size = loses("A WRITE of more than 20,000 bytes is lost.",
+                                   lambda self, asked, offset, data: len(data) > 20000)
 
         @ask(made=set, HIDDEN_BY=("slash",))
         def directory_is_made_once(self, asked):
 
     Words in small letters say what the fault keeps: it is made anew for each server. Those in capitals are attributes.
     """
-    offered = [name.lstrip("_") for name in parameters(getattr(type("Above", above, {}), hook))]
-
     def make(*given, **members):
         if not given:
             return lambda act: make(act, **members)
         text, act = given if len(given) == 2 else (given[0].__doc__, given[0])
         fixed = {name: value for name, value in members.items() if name.isupper()}
         kept = {name: value for name, value in members.items() if name not in fixed}
-        own = {"__doc__": text, "__module__": act.__module__, hook: taking(act, offered)}
+        own = {"__doc__": text, "__module__": act.__module__, hook: act}
         return type(act.__name__, above, {**own, **fixed}, **kept)
     return make
-
-
-def parameters(function):
-    return function.__code__.co_varnames[:function.__code__.co_argcount]
-
-
-def taking(act, offered):
-    """A method that gives a function what it names of this."""
-    places = [offered.index(name) for name in parameters(act)]
-    return lambda *given: act(*(given[place] for place in places))
 
 
 changed, request = fault("changed", Bug), fault("request", Bug)
@@ -128,7 +117,7 @@ class longest_handles(Bug, handles=dict):
 
 
 wrong_byte = changed(
-    "The last byte of DATA of five bytes or more is another.", lambda packet:
+    "The last byte of DATA of five bytes or more is another.", lambda self, name, packet:
     packet[:-1] + bytes([packet[-1] ^ 1]) if packet[4] == sftp3.DATA and len(packet) >= 18 else packet)
 
 
@@ -154,16 +143,16 @@ def open_to_all(given):
 
 shown = fault("shown", Showing)
 
-fixed_owners = shown("All things have one owner.", lambda given: {**given, "owner": (65534, 65534)})
-fixed_permissions = shown("All things have the permissions 0777.", open_to_all)
-fixed_sizes = shown("The same, and 7 bytes each.", lambda given: {**open_to_all(given), "size": 7})
+fixed_owners = shown("All things have one owner.", lambda self, given: {**given, "owner": (65534, 65534)})
+fixed_permissions = shown("All things have the permissions 0777.", lambda self, given: open_to_all(given))
+fixed_sizes = shown("The same, and 7 bytes each.", lambda self, given: {**open_to_all(given), "size": 7})
 no_owners = fault("shown", Showing, wrong_byte)(
     "Attributes have no owner; and the last byte of DATA of five bytes or more is another.",
-    lambda given: {name: value for name, value in given.items() if name != "owner"})
+    lambda self, given: {name: value for name, value in given.items() if name != "owner"})
 
 
 @request
-def lost_write(asked, packet):
+def lost_write(self, asked, packet):
     """A WRITE behind the first byte is not done, but said to be."""
     if asked.name != "WRITE" or asked.fields[1] == 0:
         return packet
@@ -172,7 +161,7 @@ def lost_write(asked, packet):
 
 
 @changed
-def missing_name(name, packet):
+def missing_name(self, name, packet):
     """A listing lacks its last name, if it has two or more."""
     fields = sftp3.Fields(packet[9:])
     if name != "READDIR" or packet[4] != sftp3.NAME or fields.uint32() < 2:
@@ -186,7 +175,7 @@ def missing_name(name, packet):
 
 
 @changed
-def name_twice(name, packet):
+def name_twice(self, name, packet):
     """A reply of a listing gives its first name twice."""
     if name != "READDIR" or packet[4] != sftp3.NAME:
         return packet
@@ -199,20 +188,20 @@ def in_place_of_failure(code, packet):
     return packet[:9] + code.to_bytes(4, "big") + packet[13:] if packet[9:13] == b"\0\0\0\4" else packet
 
 
-wrong_code = changed("RMDIR that fails is said to be denied.", lambda name, packet: in_place_of_failure(
+wrong_code = changed("RMDIR that fails is said to be denied.", lambda self, name, packet: in_place_of_failure(
     sftp3.PERMISSION_DENIED, packet) if name == "RMDIR" else packet)
-told_done = changed("RENAME that fails is said to be done.", lambda name, packet: in_place_of_failure(
+told_done = changed("RENAME that fails is said to be done.", lambda self, name, packet: in_place_of_failure(
     sftp3.OK, packet) if name == "RENAME" else packet)
 done_extension = changed(
-    "An extension that nobody knows is said to be done.", lambda name, packet:
+    "An extension that nobody knows is said to be done.", lambda self, name, packet:
     sftp3.packet(sftp3.STATUS, packet[5:9] + bytes(12)) if name == "EXTENDED" else packet)
 malformed = changed(
-    "The reply to READLINK has a byte more than it should.", lambda name, packet:
+    "The reply to READLINK has a byte more than it should.", lambda self, name, packet:
     sftp3.packet(packet[4], packet[5:] + b"\0") if name == "READLINK" else packet)
 
 
 @request
-def crash(asked, packet):
+def crash(self, asked, packet):
     """A path with a byte of 0 ends the server."""
     if any(isinstance(value, bytes) and b"/f\0" in value for value in asked.fields):
         os._exit(7)
@@ -236,7 +225,7 @@ class overtaking(Bug):
 
 overtaking_elsewhere = fault("are_meant", overtaking)(
     "A READ that came together with the WRITE before it is done first, if both have handles of their own.",
-    lambda first, second: first.handle() != second.handle())
+    lambda self, first, second: first.handle() != second.handle())
 
 
 def ended(packet):
@@ -284,12 +273,12 @@ class moved_listing(Bug, paths=dict, places=dict, moved=set, lost=set):
 
 
 rename_over = request(
-    "RENAME replaces what is at the new place, as posix-rename does.", lambda asked, packet:
+    "RENAME replaces what is at the new place, as posix-rename does.", lambda self, asked, packet:
     sftp3.request(asked.number, "POSIX-RENAME", *asked.fields) if asked.name == "RENAME" else packet)
 
 
 @fault("opening", Bug)
-def further_extension(packet):
+def further_extension(self, packet):
     """No bug: VERSION has an extension more."""
     number, pairs = sftp3.version_of(packet)
     return sftp3.version(number, pairs + [(b"statvfs@openssh.com", b"2")])

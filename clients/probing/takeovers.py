@@ -1,6 +1,7 @@
 """Scenes in which something takes a place: a directory that of another one, a file one at which nothing was found, and
 what no RENAME may replace; and in which files and directories that were there at the start lose and get theirs."""
 from probing.model import DIRECTORY, FILE
+from probing.pairs import each_of
 from probing.plans import Content
 from probing.transfers import CREAT, EXCL, READ, WRITE, download, listing
 
@@ -48,21 +49,24 @@ def finding_later(p):
 
 def standing_apart(p):
     """RENAME makes no directory that its path lacks, replaces no directory and nothing by a link, and moves nothing to
-    its own place."""
-    file, folder, empty, link = p.blank(b"apart"), p.blank(b"apart.d"), p.blank(b"apart.e"), p.blank(b"apart.link")
-    absent = p.blank(b"apart.not") + b"/in"
+    its own place. Now and then a link is to replace one that leads to nothing, as it does in OpenSSH's server."""
+    file, folder, empty, absent = p.blank(b"apart"), p.blank(b"apart.d"), p.blank(b"apart.e"), p.blank(b"apart.not")
+    link, dangling = p.blank(b"apart.link"), p.blank(b"apart.nowhere")
     yield from put(p, file, 30)
     for path in (folder, empty):
         yield p.ask("MKDIR", path, {})
-    yield p.ask("SYMLINK", folder[1:], link)
     for name in ("RENAME", "POSIX-RENAME"):
-        yield p.ask(name, file, absent, cause="NoEntry")
-    yield p.ask("RENAME", folder, empty, cause="Exists")
-    yield p.ask("RENAME", link, file, cause="Exists")
-    for path in (file, folder, link):
-        yield p.ask("RENAME", path, path, cause="Exists")
+        yield p.ask(name, file, absent + b"/in", cause="NoEntry")
+    for old, new in ((folder, empty), (file, file), (folder, folder)):
+        yield p.ask("RENAME", old, new, cause="Exists")
     for path in (folder, empty):
         yield p.ask("RMDIR", path)
+    for target, path in ((file, link), (absent, dangling)):
+        yield p.ask("SYMLINK", target[1:], path)
+    for new in (file, link):
+        yield p.ask("RENAME", link, new, cause="Exists")
+    if p.random.random() < 0.3:
+        yield p.ask("RENAME", link, dangling, cause="Exists")
 
 
 def counting_names(p):
@@ -85,24 +89,49 @@ def counting_names(p):
 
 def racing(p):
     """Two requests at once that want the same place, or to remove the same thing: the second has to be refused."""
-    path, folder, link, new = p.blank(b"race"), p.blank(b"race.d"), p.blank(b"race.link"), p.blank(b"race.new")
-    other = p.blank(b"race.other")
+    yield from each_of(p, RACES)
+
+
+def opening_twice(p):
+    """A file that is made twice."""
+    path = p.blank(b"race")
     step = p.ask("OPEN", path, WRITE | CREAT | EXCL, {})
     yield step
     yield p.ask("OPEN", path, WRITE | CREAT | EXCL, {}, cause="Exists")
     yield p.ask("CLOSE", step.opened())
-    yield from put(p, other, 20)
-    for name in ("MKDIR", "RMDIR"):
-        for cause in (None, "Exists" if name == "MKDIR" else "NoEntry"):
-            yield p.ask(name, folder, *([{}] if name == "MKDIR" else []), cause=cause)
+
+
+def making_twice(p):
+    """A directory that is made twice, and removed twice."""
+    folder = p.blank(b"race.d")
+    for cause in (None, "Exists"):
+        yield p.ask("MKDIR", folder, {}, cause=cause)
+    for cause in (None, "NoEntry"):
+        yield p.ask("RMDIR", folder, cause=cause)
+
+
+def linking_twice(p):
+    """A link that is made twice, and removed twice."""
+    link = p.blank(b"race.link")
     for target, cause in ((b"one", None), (b"two", "Exists")):
         yield p.ask("SYMLINK", target, link, cause=cause)
-    for old, cause in ((path, None), (other, "Exists")):
-        yield p.ask("RENAME", old, new, cause=cause)
     yield p.ask("READLINK", link)
-    yield p.ask("STAT", new)
     for cause in (None, "NoEntry"):
         yield p.ask("REMOVE", link, cause=cause)
+
+
+def renaming_twice(p):
+    """Two files that get one name."""
+    files, new = [p.blank(b"race") for _ in range(2)], p.blank(b"race.new")
+    for path, size in zip(files, (10, 20)):
+        yield from put(p, path, size)
+    for path, cause in zip(files, (None, "Exists")):
+        yield p.ask("RENAME", path, new, cause=cause)
+    yield p.ask("STAT", new)
+
+
+# These, each with the feature that it needs, if it does, as in `pairs.PAIRS`.
+RACES = {opening_twice: "two-handles", making_twice: None, linking_twice: "SYMLINK", renaming_twice: "rename-over"}
 
 
 # The most bytes of a file of the start that is read whole, and the most names of a directory that is emptied.
@@ -124,14 +153,14 @@ def first_changes(p):
     if place is None:
         return
     path, part = b"/" + b"/".join(place), p.blank(b"first.part")
-    reader = p.ask("OPEN", path, READ, {})
-    yield reader
-    writer = p.ask("OPEN", path, READ | WRITE, {})
-    yield writer
-    yield p.ask("WRITE", writer.opened(), 1, b"written")
-    yield p.ask("READ", reader.opened(), 0, 100)
-    for step in (reader, writer):
-        yield p.ask("CLOSE", step.opened())
+    if "two-handles" not in p.skip:
+        reader, writer = (p.ask("OPEN", path, flags, {}) for flags in (READ, READ | WRITE))
+        yield reader
+        yield writer
+        yield p.ask("WRITE", writer.opened(), 1, b"written")
+        yield p.ask("READ", reader.opened(), 0, 100)
+        for step in (reader, writer):
+            yield p.ask("CLOSE", step.opened())
     yield from put(p, part, 3)
     yield p.ask("POSIX-RENAME", part, path)
     yield p.ask("REMOVE", path)

@@ -194,6 +194,24 @@ class one_owner(Usual):
         return super().answer(asked, packet)
 
 
+class few_owners(Usual):
+    """It has no users and groups above 65,535, as in a container that maps as many."""
+
+    def answer(self, asked, packet):
+        is_refused = "large-owner" in features.of_request(asked.name, asked.fields)
+        return sftp3.status(asked.number, sftp3.FAILURE) if is_refused else super().answer(asked, packet)
+
+
+class bare_listings(Usual):
+    """Its listings have names without attributes."""
+
+    def reply(self, asked, packet):
+        if asked.name != "READDIR" or packet[4] != sftp3.NAME:
+            return packet
+        items = [(name, long, {}) for name, long, _ in sftp3.names_in(packet)]
+        return sftp3.packet(sftp3.NAME, packet[5:9] + sftp3.names(items))
+
+
 class texts_alone(Usual):
     """Its names are UTF-8."""
 

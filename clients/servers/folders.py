@@ -41,6 +41,10 @@ class Bad(Exception):
     """A tree that cannot be made into a folder."""
 
 
+class NotOwn(Exception):
+    """A folder that is not for the files of sessions alone."""
+
+
 @contextlib.contextmanager
 def closed_behind(descriptor):
     """A descriptor, for a block behind which it is closed."""
@@ -281,16 +285,19 @@ class Kept(Folder):
         super().__init__(tree_file)
 
     def locked(self):
-        """Gives a descriptor of the folder, which holds it locked. Raises Bad if it is not this user's alone, or if it
-        has what no earlier session made."""
+        """Gives a descriptor of the folder, which holds it locked. Raises NotOwn if it is not this user's alone, or if
+        it has what no earlier session made."""
         held = os.open(self.name, DIRECTORY)
         try:
-            state = os.fstat(held)
-            if state.st_uid != os.geteuid() or stat.S_IMODE(state.st_mode) & 0o077:
-                raise Bad(f"{self.name} is no folder that this user alone can enter: chmod 0700 {self.name}")
+            state, user = os.fstat(held), os.geteuid()
+            if state.st_uid != user:
+                raise NotOwn(f"{self.name} is a folder of user {state.st_uid}: name one that user {user}, as whom this "
+                             "script runs, has made by mkdir -m 0700")
             fcntl.flock(held, fcntl.LOCK_SH)
             if foreign := [name for name in os.listdir(held) if name != ROOT]:
-                raise Bad(f"{self.name} has {foreign[0]!r}, which no session of these servers made there")
+                raise NotOwn(f"{self.name} has {foreign[0]!r}, which no session of these servers made there")
+            if stat.S_IMODE(state.st_mode) & 0o077:
+                raise NotOwn(f"{self.name} is a folder that others can enter: chmod 0700 {self.name}")
         except BaseException:
             os.close(held)
             raise

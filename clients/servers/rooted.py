@@ -73,7 +73,7 @@ def folder_of(arguments, package, program):
         fail(f"{program} is not there: apt-get install {package}")
     try:
         return folders.Kept(arguments[1], kept[0]) if kept else folders.Folder(arguments[1])
-    except (temporary.Unfit, NotBuilt) as error:
+    except (temporary.Unfit, NotBuilt, folders.NotOwn) as error:
         return fail(error)
     except (OSError, folders.Bad) as error:
         return fail(f"{arguments[1]}: {error}")
