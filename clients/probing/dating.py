@@ -108,10 +108,17 @@ def dated_sync(p):
 
 
 def dated_whole(p):
-    """All attributes at once, as of a file that a client has looked at before, by path and by handle; a directory with
-    the permissions that it shows; and times by a link, which leads to the file."""
+    """Times by a link, which leads to the file; a directory with the permissions that it shows; and all attributes at
+    once, as of a file that a client has looked at before, by path and by handle."""
     path, folder, link = p.blank(b"dated-whole"), p.blank(b"dated-whole.d"), p.blank(b"dated-whole.link")
     yield from upload(p, path, Content(p.random, 500))
+    yield p.ask("SYMLINK", path[1:], link)
+    yield p.ask("SETSTAT", link, times(p))
+    yield p.ask("STAT", link)
+    yield p.ask("MKDIR", folder, {})
+    yield p.ask("SETSTAT", folder, {"owner": (5, 6), "permissions": 0o40750, **times(p)})
+    yield p.ask("STAT", folder)
+    # with `--skip size-and-more` nothing behind this is asked
     yield p.ask("SETSTAT", path, {"size": 400, "owner": (5, 6), "permissions": 0o100640, **times(p)})
     yield p.ask("STAT", path)
     step = p.ask("OPEN", path, READ | WRITE, {})
@@ -119,12 +126,6 @@ def dated_whole(p):
     yield p.ask("FSETSTAT", step.opened(), {"size": 300, "owner": (7, 8), "permissions": 0o100604, **times(p)})
     yield p.ask("FSTAT", step.opened())
     yield p.ask("CLOSE", step.opened())
-    yield p.ask("MKDIR", folder, {})
-    yield p.ask("SETSTAT", folder, {"owner": (5, 6), "permissions": 0o40750, **times(p)})
-    yield p.ask("STAT", folder)
-    yield p.ask("SYMLINK", path[1:], link)
-    yield p.ask("SETSTAT", link, times(p))
-    yield p.ask("STAT", link)
 
 
 # Each session has one of them: as in `planner.PERIODS`.

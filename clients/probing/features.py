@@ -29,6 +29,7 @@ FEATURES = {
     "two-handles": "OPEN of a file that is open already",
     "excl-dangling": "OPEN with EXCL of a link that leads to nothing, where it might make a file",
     "rename-over": "RENAME to a place that is taken",
+    "rename-dangling": "RENAME of a link to the place of another link, which leads to nothing",
     "moved-listing": "what moves a directory that is open, or takes its path away",
     "removed-name": "what takes a name out of a directory that is open",
     "removed-open": "RMDIR of a directory that is open",
@@ -163,8 +164,11 @@ def of_realpath(planner, _step, path):
 
 
 def of_rename(planner, step, old, new):
-    found = {"rename-over"} if planner.model.at(planner.model.walk(new, False)) else set()
-    return found | of_move(planner, step, old, new)
+    model = planner.model
+    link, taken = (model.at(model.walk(path, False)) for path in (old, new))
+    is_dangling = link and taken and link.kind == LINK == taken.kind and not model.at(model.walk(new, True))
+    found = {"rename-over": taken, "rename-dangling": is_dangling}
+    return {feature for feature, has in found.items() if has} | of_move(planner, step, old, new)
 
 
 def of_move(planner, step, *_paths):
