@@ -11,13 +11,13 @@ import sys
 sys.path.insert(0, os.path.dirname(os.path.dirname(os.path.realpath(__file__))))
 
 from probing import (  # noqa: E402 (the folder above is not searched before)
-    faulty, faulty_contents, faulty_handles, faulty_holdings, faulty_kept, faulty_meetings, faulty_names, faulty_open,
-    faulty_order, faulty_places, faulty_reads, faulty_replies, faulty_served, faulty_stores, faulty_takeovers,
-    faulty_times, faulty_writes, planted)
+    faulty, faulty_contents, faulty_deeper, faulty_handles, faulty_holdings, faulty_kept, faulty_meetings, faulty_names,
+    faulty_open, faulty_order, faulty_places, faulty_reads, faulty_replies, faulty_served, faulty_stores,
+    faulty_takeovers, faulty_times, faulty_writes, planted)
 
 MODULES = (faulty_writes, faulty_reads, faulty_names, faulty_replies, faulty_open, faulty_meetings, faulty_order,
            faulty_kept, faulty_stores, faulty_handles, faulty_served, faulty_times, faulty_places, faulty_contents,
-           faulty_takeovers, faulty_holdings)
+           faulty_takeovers, faulty_holdings, faulty_deeper)
 
 # The faults by their names, in the order of docs/PROBE.md: the classes of a module whose names are in small letters.
 FAULTS = {name.replace("_", "-"): fault

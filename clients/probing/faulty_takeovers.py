@@ -33,14 +33,6 @@ rename_of_directory_replaces = rename_of_link_replaces.but(
 
 
 @alter_now
-def rename_replaces_dangling(self, asked):
-    """RENAME of a link replaces a link at the new place that leads to nothing, as it does in OpenSSH's server."""
-    if asked.name == "RENAME" and not is_of_one_place(asked) and self.kind_now(asked.fields[0]) == LINK \
-            and self.dangles(asked.fields[1]):
-        asked.name = "POSIX-RENAME"
-
-
-@alter_now
 def rename_goes_inside(self, asked):
     """RENAME of a directory to the place of another directory puts it into that, as `mv` does."""
     if asked.name == "RENAME" and not is_of_one_place(asked) \

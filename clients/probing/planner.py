@@ -14,7 +14,8 @@ import random
 
 import sftp3
 from probing import (
-    crossings, dating, features, holdings, meetings, pairs, refusals, remains, renewals, scenes, takeovers, transfers)
+    crossings, dating, deeper, features, holdings, meetings, pairs, refusals, remains, renewals, scenes, takeovers,
+    transfers)
 from probing.transfers import listing
 from probing.model import DIRECTORY, FILE, LINK, Model, apply
 from probing.plans import Handle, Step
@@ -294,7 +295,8 @@ def ids_of(seed):
 
 # The scenes that come behind all others, each row by a planner of its own, whose random numbers its word is for.
 BEHIND = [("further", crossings.PERIODS), ("dated", dating.PERIODS), ("remaining", remains.PERIODS),
-          ("dated again", dating.MORE), ("taking", takeovers.PERIODS), ("holding", holdings.PERIODS)]
+          ("dated again", dating.MORE), ("taking", takeovers.PERIODS), ("holding", holdings.PERIODS),
+          ("deeper", deeper.PERIODS)]
 
 
 def plan(seed, tree, count, skip=()):

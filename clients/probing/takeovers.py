@@ -49,9 +49,9 @@ def finding_later(p):
 
 def standing_apart(p):
     """RENAME makes no directory that its path lacks, replaces no directory and nothing by a link, and moves nothing to
-    its own place. Now and then a link is to replace one that leads to nothing, as it does in OpenSSH's server."""
+    its own place."""
     file, folder, empty, absent = p.blank(b"apart"), p.blank(b"apart.d"), p.blank(b"apart.e"), p.blank(b"apart.not")
-    link, dangling = p.blank(b"apart.link"), p.blank(b"apart.nowhere")
+    link = p.blank(b"apart.link")
     yield from put(p, file, 30)
     for path in (folder, empty):
         yield p.ask("MKDIR", path, {})
@@ -61,12 +61,9 @@ def standing_apart(p):
         yield p.ask("RENAME", old, new, cause="Exists")
     for path in (folder, empty):
         yield p.ask("RMDIR", path)
-    for target, path in ((file, link), (absent, dangling)):
-        yield p.ask("SYMLINK", target[1:], path)
+    yield p.ask("SYMLINK", file[1:], link)
     for new in (file, link):
         yield p.ask("RENAME", link, new, cause="Exists")
-    if p.random.random() < 0.3:
-        yield p.ask("RENAME", link, dangling, cause="Exists")
 
 
 def counting_names(p):

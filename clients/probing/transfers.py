@@ -366,7 +366,7 @@ def crowd_of(count):
             yield p.ask("RENAME", place, new)
             place = new
         yield from listing(p, place, count)
-        if count == LOSING:
+        if count in LOSING:
             yield from losing(p, place, count)
     return crowd
 
@@ -374,8 +374,9 @@ def crowd_of(count):
 # How many keys a store of objects lists at a time: a directory of more names gets another name, too.
 KEYS = 1000
 
-# How many names the directory has that loses some while it is listed: more than most servers give at a time.
-LOSING = 100
+# How many names the directories have that lose some while they are listed, and how many at most. Servers give 32 names
+# at a time, 100 or 128: what goes has to be among those that are still to be given.
+LOSING, MOST_LOST = (100, 1000), 12
 
 
 def losing(p, place, count):
@@ -383,7 +384,7 @@ def losing(p, place, count):
     names = sorted(p.model.names_in((place[1:],)))
     step = p.ask("OPENDIR", place)
     yield step
-    for name in p.random.sample(names, count // NAMES_AT_ONCE + 1):
+    for name in p.random.sample(names, min(count // NAMES_AT_ONCE + 1, MOST_LOST)):
         yield p.ask("READDIR", step.opened())
         is_directory = p.model.at((place[1:], name)).kind == DIRECTORY
         yield p.ask("RMDIR" if is_directory else "REMOVE", place + b"/" + name)

@@ -195,7 +195,7 @@ def try_group(steps, folder):
     os.mkdir(live)
     os.chown(live, -1, 65534)
     os.chmod(live, 0o2775)
-    words = ["--look-first", live, "--skip", "crowds,nul,moved-listing,size-and-more", *POSIX]
+    words = ["--look-first", live, "--skip", "crowds,nul,moved-listing,size-and-more,rename-dangling", *POSIX]
     status, said = probe(folder, words, [SFTP_SERVER])
     steps.check("a folder of a group: accepted", status == 0 and not os.listdir(live), said[-2000:])
 
