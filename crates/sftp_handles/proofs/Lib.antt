@@ -1,5 +1,4 @@
 pub mod Imports
-pub mod Lanes
 pub mod Good
 pub mod Judged
 pub mod HandleTables

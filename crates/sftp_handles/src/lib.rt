@@ -6,7 +6,6 @@ mod answer;
 mod byte_range;
 mod changes;
 mod clash;
-mod comparing;
 pub mod examples;
 mod free_names;
 mod given_table;

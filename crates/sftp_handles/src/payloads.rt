@@ -4,7 +4,6 @@ ghost use Rattle.sftp_handles.specs.Replies as spec;
 ghost use Rattle.sftp_handles.specs.Payloads.{said_in, answer_of};
 
 use crate::answer::forms::{has_code, one_name, status};
-use crate::comparing::same_bytes;
 use sftp_listing::same_attributes;
 use sftp_packets::status::EOF;
 use sftp_packets::{Answer, Attrs, ByteString, Names};
@@ -42,7 +41,7 @@ impl<'a> Payload<'a> {
                 _ => false,
             },
             Payload::Data(bytes) => match answer {
-                Answer::Data(given) => same_bytes(bytes, given.as_slice()),
+                Answer::Data(given) => *bytes == given.as_slice(),
                 _ => false,
             },
             Payload::Extended(told) => match answer {
