@@ -105,7 +105,8 @@ module _ (number : ℕ) where
   total-hollow [] = refl
   total-hollow (e ∷ fs) = λ i. hollowed-length (e.0 == number) e.1 i + total-hollow fs i
 
-  pub fits-hollow : (bounds : TreeLimits) (fs : Files) → list_all (λ e. content_fits bounds e.1) (hollow_files number fs)
+  pub fits-hollow : (bounds : TreeLimits) (fs : Files)
+      → list_all (λ e. content_fits bounds e.1) (hollow_files number fs)
       ≡ list_all (λ e. content_fits bounds e.1) fs
   unfolding hollow_files
   fits-hollow bounds [] = refl

@@ -1,6 +1,7 @@
 -- States with zeros in the place of the bytes of a file: a request that reads none of them has the same causes and the
 -- same replies, and leads to states that are the same but for these bytes.
-use Rattle.std.proofs.Common.{◌≡◌, ◌∙◌, ◌==◌, ◌&&◌, ◌||◌, not, ap, sym, subst, IsTrue, refl, arith, ℕ, ◌+◌, ◌-◌, Bool, true}
+use Rattle.std.proofs.Common.{◌≡◌, ◌∙◌, ◌==◌, ◌&&◌, ◌||◌, not, ap, sym, subst, IsTrue, refl, arith, ℕ}
+use Rattle.std.proofs.Common.{◌+◌, ◌-◌, Bool, true}
 use Rattle.std.proofs.Common.{false, List, ◌++◌, length, drop, Option, Some, None, inl, inr}
 use Rattle.std.specs.Option.{option_map}
 use Rattle.std.specs.Prelude.{nat_le, nat_lt, replicate, if◌then◌else◌}
@@ -25,7 +26,8 @@ use Rattle.sftp_tree.specs.Requests as paths
 use Rattle.sftp_tree.proofs.CauseLaws.{length-resized}
 use Rattle.sftp_handles.specs.declared.opens.Open.{Open}
 use Rattle.sftp_handles.specs.declared.opens.Open.TheVariants.{File, Listing}
-use Rattle.sftp_handles.specs.State.{State, Handles, Seen, absent, other_kind, something, file, listing, seen, seen_among}
+use Rattle.sftp_handles.specs.State.{State, Handles, Seen, absent, other_kind, something, file, listing, seen}
+use Rattle.sftp_handles.specs.State.{seen_among}
 use Rattle.sftp_handles.specs.State.{with_open, without_open}
 use Rattle.sftp_handles.specs.Replies.{struck, names_given}
 use Rattle.sftp_handles.specs.State.{Needed, anything, a_file, a_listing, seen_file, open_at, settled, pins_of}
@@ -34,9 +36,11 @@ use Rattle.sftp_handles.specs.RequestRows.{row_of, causes_of, said_of, read_from
 use Rattle.sftp_handles.specs.RequestRows.{start_of, goes_to_end, change_of, change_file}
 use Rattle.sftp_handles.specs.Allowed.{causes, causes_by, answers, said_to, told_to, after, after_by, changed}
 use Rattle.sftp_handles.specs.Allowed.{seen_by, with_new, opened_by, flags_of}
-use Rattle.sftp_laws.specs.Alike.{hollowed, hollow_files, hollow_tree, hollow, AreAlike, has_bytes, reads_file, AllowedApart}
+use Rattle.sftp_laws.specs.Alike.{hollowed, hollow_files, hollow_tree, hollow, AreAlike, has_bytes, reads_file}
+use Rattle.sftp_laws.specs.Alike.{AllowedApart}
 use Rattle.sftp_laws.proofs.HollowFiles.{files-again, hollowed-length, content-hollow, retain-hollow, total-hollow}
-use Rattle.sftp_laws.proofs.HollowTrees.{changed-alike, shown-hollowed, rewritten, outcome-hollow, causes-tree, told-hollow}
+use Rattle.sftp_laws.proofs.HollowTrees.{changed-alike, shown-hollowed, rewritten, outcome-hollow, causes-tree}
+use Rattle.sftp_laws.proofs.HollowTrees.{told-hollow}
 
 -- ---- what a request through a handle makes of a file
 
@@ -70,7 +74,8 @@ written-alike : (b : Bool) (flags : OpenFlags) (offset : ℕ) (new : List ℕ) (
 written-alike true flags offset new c =
     let same = length-replicate {A = ℕ} (length c.bytes) 0 in
     ap (λ (n : ℕ). record c { bytes = replicate n 0 })
-    (ap (λ (end : ℕ). length (written (if goes_to_end flags then end else offset) new (replicate (length c.bytes) 0))) same
+    (ap (λ (end : ℕ). length (written (if goes_to_end flags then end else offset) new (replicate (length c.bytes) 0)))
+    same
     ∙ written-length (start_of flags offset c) new (replicate (length c.bytes) 0) c.bytes same)
 written-alike false flags offset new c = refl
 
@@ -127,7 +132,8 @@ module _ (number : ℕ) where
       → has_file_room (hollow_tree number t) k next ≡ has_file_room t k next
   room-there t k next = ap (λ b. content_fits (limits t) next && b) (total-there t k (length next.bytes))
 
-  room-of : (t : Tree) (b : Bool) (k : ℕ) (next : Content) → has_file_room t k (hollowed b next) ≡ has_file_room t k next
+  room-of : (t : Tree) (b : Bool) (k : ℕ) (next : Content)
+      → has_file_room t k (hollowed b next) ≡ has_file_room t k next
   room-of t b k next = ap (λ (n : ℕ). nat_le n t.limits.file_bytes && total_fits_with t k n) (hollowed-length b next)
 
   with-room-of : (t : Tree) (b : Bool) (k : ℕ) (set : CauseSet) (o : Option Content)
@@ -256,7 +262,8 @@ module _ (number : ℕ) where
 
   -- ---- the state after it
 
-  settled-out : (t : Tree) (handles : Handles) → hollow number (settled t handles) ≡ settled (hollow_tree number t) handles
+  settled-out : (t : Tree) (handles : Handles)
+      → hollow number (settled t handles) ≡ settled (hollow_tree number t) handles
   settled-out t handles =
       ap (λ (fs : Files). record {
         tree = record t { files = fs; pins = pins_of handles };
@@ -282,7 +289,8 @@ module _ (number : ℕ) where
   rewritten-alike s handle k (Some one) (Some other) same =
       settled-alike (record s.tree { files = with_content (hollow_files number s.tree.files) k one })
       (record s.tree { files = with_content s.tree.files k other }) s.handles
-      (ap (λ (fs : Files). record s.tree { files = fs }) (rewritten number s.tree.files k one other (same_Some (hollowed (k == number) one) (hollowed (k == number) other) same)))
+      (ap (λ (fs : Files). record s.tree { files = fs }) (rewritten number s.tree.files k one other
+      (same_Some (hollowed (k == number) one) (hollowed (k == number) other) same)))
 
   changed-seen : (s : State) (ask : Ask) (answer : Answer) (handle : List ℕ) (sn : Seen)
       → hollow number (changed (hollow number s) handle (change_of (row_of ask) (seen_hollow sn) answer))
@@ -333,7 +341,10 @@ module _ (number : ℕ) where
       record {
         allowed = record {
           same_id = step.allowed.same_id;
-          step = inl (record { cause = subst (λ set. IsTrue (refuses set reply.answer)) same refused.cause; unchanged = refl });
+          step = inl (record {
+            cause = subst (λ set. IsTrue (refuses set reply.answer)) same refused.cause;
+            unchanged = refl;
+          });
         };
         apart = apart;
       },

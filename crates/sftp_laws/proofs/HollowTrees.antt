@@ -1,4 +1,5 @@
--- Trees with zeros in the place of the bytes of a file: what a request on paths finds, asks for and is told is the same.
+-- Trees with zeros in the place of the bytes of a file: what a request on paths finds, asks for and is told is the
+-- same.
 use Rattle.std.proofs.Common.{◌≡◌, ◌∙◌, ◌==◌, ◌&&◌, not, ap, sym, refl, ℕ, ◌+◌, Bool, true, false, List, []}
 use Rattle.std.proofs.Common.{length, Option, Some, None, Result, Ok, Err, filter_map}
 use Rattle.std.specs.Option.{option_map, unwrap_or}
@@ -113,7 +114,8 @@ module _ (number : ℕ) where
       ap (λ (fs : Files). record t { names = with_node t.names place (Dir owner); files = fs })
       (files-again number t.files)
   carried-hollow t (set_file k attrs) =
-      ap (λ o. hollow_tree number (with_changed_file (hollow_tree number t) attrs k o)) (content-hollow number t.files k)
+      ap (λ o. hollow_tree number (with_changed_file (hollow_tree number t) attrs k o))
+      (content-hollow number t.files k)
       ∙ set-hollow t attrs k (content_at t.files k)
   carried-hollow t (make_file place content) =
       ap (λ (fs : Files). record t { names = with_node t.names place (File t.made); files = fs; made = t.made + 1 })
@@ -173,7 +175,8 @@ module _ (number : ℕ) where
   outcome-hollow t ask =
       (λ i. hollow_tree number (carried (hollow_tree number t)
       (plan_led (hollow_tree number t) ask (led-hollow t ask i) (new-led-hollow t ask i))))
-      ∙ ap (λ plan. hollow_tree number (carried (hollow_tree number t) plan)) (plan-by t ask (led t ask) (new_led t ask))
+      ∙ ap (λ plan. hollow_tree number (carried (hollow_tree number t) plan))
+      (plan-by t ask (led t ask) (new_led t ask))
       ∙ carried-hollow t (plan_led t ask (led t ask) (new_led t ask))
 
   outcome-fits : (t : Tree) (ask : Ask) → fits (outcome (hollow_tree number t) ask) ≡ fits (outcome t ask)
@@ -199,7 +202,8 @@ module _ (number : ℕ) where
   plain-hollow t ask = (λ i. plain_of (hollow_tree number t) ask (led-hollow t ask i) (new-led-hollow t ask i))
       ∙ plain-by (led t ask) (new_led t ask)
     where
-      plain-by : (end new : Option (Result Place Cause)) → plain_of (hollow_tree number t) ask end new ≡ plain_of t ask end new
+      plain-by : (end new : Option (Result Place Cause))
+          → plain_of (hollow_tree number t) ask end new ≡ plain_of t ask end new
       plain-by end new = λ i.
           joined (joined (joined (own_causes ask) (led_causes end (here t ask i))) (led_causes new (there t ask i)))
           (both_causes end new (between t ask i))
@@ -235,7 +239,8 @@ module _ (number : ℕ) where
   listing-hollow : (t : Tree) (place : Place) → listing (hollow_tree number t) place ≡ listing t place
   unfolding listing
   listing-hollow t place = λ i.
-      filter_map (λ (e : Name × Node). option_map (λ attrs. (e.0, attrs)) (shown-hollow t e.1 i)) (children t.names place)
+      filter_map (λ (e : Name × Node). option_map (λ attrs. (e.0, attrs)) (shown-hollow t e.1 i))
+      (children t.names place)
 
   told-there : (t : Tree) (ask : Ask) (place : Place) → told_at (hollow_tree number t) ask place ≡ told_at t ask place
   told-there t (asks.Stat path) place = ap (λ a. attributes a) (shown-there t (node_at t.names place))
@@ -250,6 +255,8 @@ module _ (number : ℕ) where
   told-by t ask (Some (Ok place)) = told-there t ask place
   told-by t ask (Some (Err cause)) = refl
 
-  pub told-hollow : (t : Tree) (ask : Ask) → led_to done (led (hollow_tree number t) ask) (told_at (hollow_tree number t) ask)
+  pub told-hollow : (t : Tree) (ask : Ask)
+      → led_to done (led (hollow_tree number t) ask) (told_at (hollow_tree number t) ask)
       ≡ led_to done (led t ask) (told_at t ask)
-  told-hollow t ask = (λ i. led_to done (led-hollow t ask i) (told_at (hollow_tree number t) ask)) ∙ told-by t ask (led t ask)
+  told-hollow t ask =
+      (λ i. led_to done (led-hollow t ask i) (told_at (hollow_tree number t) ask)) ∙ told-by t ask (led t ask)

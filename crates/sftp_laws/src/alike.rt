@@ -1,5 +1,5 @@
-//! Laws about bytes that no reply has, as theorems on the definitions that the contracts name. The functions do nothing;
-//! each promise is in the contract.
+//! Laws about bytes that no reply has, as theorems on the definitions that the contracts name. The functions do
+//! nothing; each promise is in the contract.
 ghost use Rattle.std.specs.Prelude.{◌≡◌, ℕ, List};
 ghost use Rattle.sftp_packets.specs.declared.packets.Request.{Request};
 ghost use Rattle.sftp_packets.specs.declared.packets.Reply.{Reply};
