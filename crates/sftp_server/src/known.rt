@@ -1,5 +1,5 @@
-//! Which requests of a queue were found ready: each stays so until it is done. A choice among all that are possible need
-//! then not compare each request with all before it.
+//! Which requests of a queue were found ready: each stays so until it is done. A choice among all that are possible
+//! need then not compare each request with all before it.
 
 use crate::queue::{Progress, Queue};
 use sftp_handles::{HandleTable, Session};
@@ -36,8 +36,8 @@ impl Known {
         }
     }
 
-    /// How many acts are possible: requests that are ready, and replies to be sent. Acts are left out for which there is
-    /// no memory.
+    /// How many acts are possible: requests that are ready, and replies to be sent. Acts are left out for which there
+    /// is no memory.
     pub(crate) fn count<T: HandleTable>(&mut self, session: &Session<T>, queue: &Queue) -> usize {
         self.possible.clear();
         'each: for k in 0..queue.len() {
