@@ -246,7 +246,7 @@ impl<T: HandleTable> Core<T> {
     pub(crate) fn choice(&self, number: usize) -> Option<Choice>
         ensures { IfSome result (IsPossible server_clash self.now) }
     {
-        let k = self.known.position(&self.queue, number);
+        let k = self.known.position(number)?;
         if self.is_done(k) {
             Some(Choice::Send(k))
         } else if self.ready(k) {

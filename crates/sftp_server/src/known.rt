@@ -1,8 +1,9 @@
-//! Which requests of a queue were found ready: each stays so until it is done. A choice among all that are possible need
-//! then not compare each request with all before it.
+//! Which requests of a queue were found ready: each stays so until it is done. A choice among all that are possible
+//! need then not compare each request with all before it.
 
-use crate::queue::Queue;
+use crate::queue::{Progress, Queue};
 use sftp_handles::{HandleTable, Session};
+use sftp_wire::Request;
 use std::alloc::Global;
 use std::collections::VecDeque;
 
@@ -22,6 +23,8 @@ pub(crate) enum Found {
 #[derive(Drop)]
 pub(crate) struct Known {
     found: VecDeque<Found>,
+    /// The positions of the acts that were possible when they were last counted.
+    possible: Vec<usize>,
 }
 
 impl Known {
@@ -29,26 +32,48 @@ impl Known {
     pub(crate) fn new(alloc: Global) -> Known {
         Known {
             found: VecDeque::new(alloc),
+            possible: Vec::new(alloc),
         }
     }
 
-    /// How many acts are possible: requests that are ready, and replies to be sent.
+    /// How many acts are possible: requests that are ready, and replies to be sent. Acts are left out for which there
+    /// is no memory.
     pub(crate) fn count<T: HandleTable>(&mut self, session: &Session<T>, queue: &Queue) -> usize {
-        let mut count = 0_usize;
+        self.possible.clear();
         'each: for k in 0..queue.len() {
-            if queue.is_done(k) || self.is_ready(session, queue, k) {
-                count = count.saturating_add(1);
+            if self.is_possible(session, queue, k) {
+                let _ = self.possible.push(k);
             }
         }
-        count
+        self.possible.len()
     }
 
-    /// Whether the request at this position is ready. Unless it was found ready, it is looked at again, and what was in
-    /// its way is asked first.
-    fn is_ready<T: HandleTable>(&mut self, session: &Session<T>, queue: &Queue, k: usize) -> bool {
-        let Some(request) = queue.pending(k) else {
+    /// Whether an act is possible at this position.
+    fn is_possible<T: HandleTable>(
+        &mut self,
+        session: &Session<T>,
+        queue: &Queue,
+        k: usize,
+    ) -> bool {
+        let Some(entry) = queue.entry(k) else {
             return false;
         };
+        match entry.progress {
+            Progress::Pending => self.is_ready(session, queue, k, &entry.request),
+            Progress::Done(_) => true,
+            Progress::Sent => false,
+        }
+    }
+
+    /// Whether the request at this position, which is pending, is ready. Unless it was found ready, it is looked at
+    /// again, and what was in its way is asked first.
+    fn is_ready<T: HandleTable>(
+        &mut self,
+        session: &Session<T>,
+        queue: &Queue,
+        k: usize,
+        request: &Request,
+    ) -> bool {
         match self.found(k) {
             Found::Ready => return true,
             Found::Behind(back) => {
@@ -70,29 +95,6 @@ impl Known {
         }
     }
 
-    /// The position of the act of this number among those that were counted.
-    pub(crate) fn position(&self, queue: &Queue, number: usize) -> usize {
-        let mut left = number;
-        'each: for k in 0..queue.len() {
-            if queue.is_done(k) || queue.is_pending(k) && self.was_ready(k) {
-                if left == 0 {
-                    return k;
-                }
-                left -= 1;
-            }
-        }
-        0
-    }
-
-    /// Whether the request at this position was found ready.
-    fn was_ready(&self, k: usize) -> bool {
-        match self.found(k) {
-            Found::Ready => true,
-            Found::Nothing => false,
-            Found::Behind(_) => false,
-        }
-    }
-
     /// What was found of the request at this position.
     fn found(&self, k: usize) -> Found {
         match self.found.get(k) {
@@ -110,6 +112,11 @@ impl Known {
             self.found.push_back_reserved(Found::Nothing);
         }
         self.found[k] = found;
+    }
+
+    /// The position of the act of this number among those that were counted.
+    pub(crate) fn position(&self, number: usize) -> Option<usize> {
+        self.possible.get(number).copied()
     }
 
     /// So many requests left the front of the queue.

@@ -108,7 +108,7 @@ impl Queue {
     }
 
     /// The entry at this position.
-    fn entry(&self, k: usize) -> Option<&Entry>
+    pub(crate) fn entry(&self, k: usize) -> Option<&Entry>
         ensures { option_copied result ≡ slice_get self.now k }
     {
         self.entries.get(k)
