@@ -1,6 +1,7 @@
 """What is checked of scripts without the built program: that they can be read, and what the tools that are installed
 find in them. Each check yields a line for each mistake."""
 import ast
+import os
 import re
 import shutil
 import subprocess
@@ -28,10 +29,10 @@ def scripts(names: list[str], kind: str) -> list[str]:
     return [it for it, head in heads.items() if is_script.match(head) or kind == "python" and it.endswith(".py")]
 
 
-def said(words: list[str]) -> list[str]:
-    """Returns what a command says of what it refuses."""
-    ran = subprocess.run(words, cwd=TOP, stdin=subprocess.DEVNULL, stdout=subprocess.PIPE, stderr=subprocess.STDOUT,
-                         text=True)
+def said(words: list[str], **settings: str) -> list[str]:
+    """Returns what a command says of what it refuses, with these settings in its environment."""
+    ran = subprocess.run(words, cwd=TOP, env={**os.environ, **settings}, stdin=subprocess.DEVNULL,
+                         stdout=subprocess.PIPE, stderr=subprocess.STDOUT, text=True)
     lines = ran.stdout.splitlines() or [f"{' '.join(words[:2])} ended with status {ran.returncode}"]
     return lines if ran.returncode else []
 
@@ -62,7 +63,7 @@ def wrong_python(names: list[str]) -> Iterator[str]:
 
 
 # What is installed is among these; the oldest version of Python that reads it; and names that only later ones have.
-INSTALLED = ("clients/", "packaging/")
+INSTALLED = ("clients/", "packaging/", "python/sftpv3/", "tests/")
 OLDEST = (3, 9)
 LATER = {"F_SETPIPE_SZ", "F_GETPIPE_SZ", "pairwise", "file_digest", "StrEnum", "UTC"}
 
@@ -104,11 +105,16 @@ def wrong_shell(names: list[str]) -> Iterator[str]:
             yield from said(["sh", "-n", name])
 
 
+# Where the tests in .ci/tests find what they try.
+FOUND_IN = (".ci", "python", "cases", "fuzz", "packaging", "tests")
+
+
 def wrong_tests() -> list[str]:
-    """Runs the tests in .ci/tests and clients/test-sftp3, which need neither the program nor the prover."""
-    of_codec = said([sys.executable, "-B", "clients/test-sftp3"])
-    return [*said([sys.executable, "-B", "-m", "unittest", "discover", "-s", ".ci/tests"]),
-            *(f"clients/test-sftp3: {it}" for it in of_codec if not it.startswith("ok: "))]
+    """Runs the tests in .ci/tests and tests/test-sftp3, which need neither the program nor the prover."""
+    of_codec = said([sys.executable, "-B", "tests/test-sftp3"])
+    words = [sys.executable, "-B", "-m", "unittest", "discover", "-s", ".ci/tests"]
+    return [*said(words, PYTHONPATH=":".join(str(TOP / it) for it in FOUND_IN)),
+            *(f"tests/test-sftp3: {it}" for it in of_codec if not it.startswith("ok: "))]
 
 
 def skipped() -> Iterator[str]:
