@@ -138,12 +138,15 @@ def wrong_imports(names):
 
 
 def wrong_version():
-    """Finds a version of the program that does not head CHANGELOG.md."""
+    """Finds a version of the program that does not head CHANGELOG.md, or is not that of the package."""
     number = re.search(r'pub const VERSION: &str = "(.*)";', text("crates/sftp_tool/src/lib.rt"))
     head = re.search(r"(?m)^## ([\d.]+)", text("CHANGELOG.md"))
     if not number or not head or number[1] != head[1]:
         yield (f"CHANGELOG.md: the newest heading, {head and head[1]}, is not the VERSION of the program, "
                f"{number and number[1]}")
+    packaged = re.search(r'(?m)^version = "(.*)"', text("pyproject.toml"))
+    if number and (not packaged or packaged[1] != number[1]):
+        yield f"pyproject.toml: the version is not the VERSION of the program, {number[1]}"
 
 
 def skipped():

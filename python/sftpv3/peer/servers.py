@@ -20,9 +20,9 @@ from collections import deque
 from contextlib import contextmanager, suppress
 
 from sftpv3 import codec
-from sftpv3.codec import greetings, wording
+from sftpv3.codec import wording
 from sftpv3.peer import pieces
-from sftpv3.system import removing, temporary
+from sftpv3.system import greetings, removing, temporary
 from sftpv3.system.pauses import AT_ONCE, Clock
 
 # Seconds for a server to end after its input did, and after it left a request unanswered.

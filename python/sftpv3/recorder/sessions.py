@@ -9,10 +9,10 @@ import os
 import select
 import time
 
-from sftpv3.codec.greetings import text_at
 from sftpv3.recorder.packets import Flow
 from sftpv3.spool.sinks import Failed
 from sftpv3.system import signals
+from sftpv3.system.greetings import text_at
 from sftpv3.system.pauses import Clock
 from sftpv3.system.starts import widen
 

@@ -14,5 +14,6 @@ starts     the program that was installed with the scripts, and why a command ca
 ending     signals that end scripts in order
 children   processes that scripts start and wait for
 pauses     how long they took, without pauses of the machine
+greetings  text that comes in place of packets
 parsers    complaints about command lines, and values of options
 program    finds the program, also in the repository; what is said of failures"""
