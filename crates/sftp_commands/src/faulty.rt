@@ -56,6 +56,9 @@ pub(crate) enum Format {
     Zip,
     SevenZip,
     Page,
+    Capture,
+    Json,
+    SshLog,
     Packets,
     Text,
 }
@@ -77,6 +80,9 @@ impl Format {
             Format::Zip => "zip",
             Format::SevenZip => "7z",
             Format::Page => "html",
+            Format::Capture => "pcap",
+            Format::Json => "json",
+            Format::SshLog => "ssh-log",
             Format::Packets => "packets",
             Format::Text => "text",
         }
@@ -98,6 +104,9 @@ impl Format {
             Format::Zip => "an archive of zip",
             Format::SevenZip => "an archive of 7z",
             Format::Page => "a page of HTML",
+            Format::Capture => "a capture of network packets",
+            Format::Json => "a text in JSON",
+            Format::SshLog => "a log of ssh -v",
             Format::Packets => "packets without the marks of a recorder",
             Format::Text => "a text as 'show' prints it",
         }
@@ -255,8 +264,31 @@ fn foreign_format_of(start: &[u8]) -> Option<Format> {
     } else if is_packets(start) {
         Some(Format::Packets)
     } else {
-        compression_of(start)
+        note_of(start).or(compression_of(start))
     }
+}
+
+/// What a file with these first bytes is, if another tool noted down a session in it.
+fn note_of(start: &[u8]) -> Option<Format> {
+    if is_capture(start) {
+        Some(Format::Capture)
+    } else if start.starts_with(b"{\"") || start.starts_with(b"[{") {
+        Some(Format::Json)
+    } else if start.starts_with(b"OpenSSH_") || start.starts_with(b"debug1: ") {
+        Some(Format::SshLog)
+    } else {
+        None
+    }
+}
+
+/// Whether a file that begins so is a capture of `tcpdump` or Wireshark: pcap, in either order of bytes, with times in
+/// microseconds or nanoseconds, or pcapng.
+fn is_capture(start: &[u8]) -> bool {
+    start.starts_with(b"\xd4\xc3\xb2\xa1")
+        || start.starts_with(b"\xa1\xb2\xc3\xd4")
+        || start.starts_with(b"\x4d\x3c\xb2\xa1")
+        || start.starts_with(b"\xa1\xb2\x3c\x4d")
+        || start.starts_with(b"\x0a\x0d\x0d\x0a")
 }
 
 /// By which program a file with these first bytes is compressed, if it is by a usual one.

@@ -42,6 +42,11 @@ fn make_from<'a, R: System>(
 ) -> Result<Ending, Failure<'a>>
     ensures { IfOk result (λ ending. ending ≡ endings.Done) }
 {
+    if text.is_empty() {
+        return Err(Failure::of_text(format!(in rt.alloc();
+            "standard input is empty; the text of a transcript begins with C INIT, that of a tree file with home"
+        )));
+    }
     let mut bytes = Vec::new(rt.alloc());
     match read_text(text, &mut bytes) {
         Ok(()) => write_last(rt, name, keeping, bytes),

@@ -8,9 +8,17 @@ use std::fs::Files;
 use std::io::Read;
 use std::{fs, io};
 
+/// The name of standard input, as a path that the system opens.
+const INPUT: &str = "/dev/stdin";
+
+/// The path of a file that is read: `-` is standard input.
+fn read_at(name: &str) -> &str {
+    if name == "-" { INPUT } else { name }
+}
+
 /// Whether the file `name` can be read more than once. A pipe cannot.
 pub fn is_read_again<R: Files>(rt: &R, name: &str) -> bool {
-    fs::metadata(rt, name).is_ok_and(|found| found.is_file())
+    fs::metadata(rt, read_at(name)).is_ok_and(|found| found.is_file())
 }
 
 /// Opens the file `name` to read it.
@@ -32,6 +40,7 @@ pub fn open_at<'a, R: Files>(rt: &R, path: &str, name: &'a str) -> Result<R::Fil
 
 /// Opens what is at this path to read it. A directory, which the system would open, cannot be read.
 fn opened<R: Files>(rt: &R, path: &str) -> io::Result<R::File> {
+    let path = read_at(path);
     if fs::metadata(rt, path).is_ok_and(|found| found.is_dir()) {
         Err(io::Error::from_raw_os_error(IS_A_DIRECTORY))
     } else {
@@ -79,7 +88,7 @@ fn read_some<'a, R: Files + AllocGlobal>(
 pub fn read<'a, R: Files + AllocGlobal>(rt: &R, name: &'a str) -> Result<Vec<u8>, Failure<'a>>
     ensures { IfErr result IsUnread }
 {
-    match fs::read(rt, name) {
+    match fs::read(rt, read_at(name)) {
         Ok(bytes) => Ok(bytes),
         Err(error) => Err(Failure::reading(name, &error)),
     }

@@ -1,6 +1,6 @@
 //! A writer of JSON objects.
 
-use crate::texts::{first_characters, split_at_escape};
+use crate::texts::{code_point, first_characters, split_at_escape};
 use std::io;
 use std::io::Write;
 
@@ -185,13 +185,16 @@ impl<'a, O: Write> JsonLines<'a, O> {
         self.put(rest);
     }
 
-    /// Writes a character of ASCII that does not stand for itself.
-    fn put_escape(&mut self, byte: u8) {
-        if byte == b'"' || byte == b'\\' {
-            self.put(&[b'\\', byte]);
-        } else {
-            self.put(b"\\u00");
-            self.put_octet(byte);
+    /// Writes a character that does not stand for itself.
+    fn put_escape(&mut self, character: &[u8]) {
+        match character {
+            [byte @ (b'"' | b'\\')] => self.put(&[b'\\', *byte]),
+            _ => {
+                let [_, _, high, low] = code_point(character).to_be_bytes();
+                self.put(b"\\u");
+                self.put_octet(high);
+                self.put_octet(low);
+            }
         }
     }
 

@@ -3,18 +3,16 @@
 pub use Rattle.std.proofs.Common.{◌≡◌, ◌<◌, ◌≤◌, ◌+◌, ◌++◌, ℕ, zero, suc, Bool, true, false, List, [], ◌∷◌, Some}
 pub use Rattle.std.proofs.Common.{is_some, if◌then◌else◌, length, slice_get, refl, ap, subst, arith, ◌-◌, ◌&&◌, Option}
 pub use Rattle.std.proofs.Common.{None, take, drop, set, sym, ◌∙◌, IfSome, ◌≢◌, not, ◌==◌, nat_lt, ◌⊎◌, inl, inr}
-pub use Rattle.std.proofs.Common.{get_or, ap₂, subst₂, append_assoc, append-nil, map, ◌||◌, max, nat_eq, cond, ◌^◌}
-pub use Rattle.std.proofs.Common.{Result, Ok, Err, add-one, OnOk, length-drop, IfOk, IfErr, OnErr, IsTrue, ◌*◌, codes}
+pub use Rattle.std.proofs.Common.{get_or, ap₂, subst₂, append_assoc, append-nil, map, ◌||◌, nat_eq, cond, ◌^◌}
+pub use Rattle.std.proofs.Common.{Result, Ok, Err, add-one, OnOk, IfOk, IfErr, OnErr, IsTrue, ◌*◌, codes}
 pub use Rattle.std.proofs.Common.{lit<, lit≤, MatchResult}
 pub use Rattle.std.proofs.KnownBytes.{Appends-trans, Consumes-trans, Keeps-refl, Consumes-kept, Appends-kept}
-pub use Rattle.std.proofs.lemmas.Bool.{true≢false, and_parts, ltb-true, ltb-false, and_from, cases_Bool, eqb-true}
-pub use Rattle.std.proofs.lemmas.Bool.{eqb-false, not-true, not_from_false, and_left, and_right, or_parts, ne_eqb}
+pub use Rattle.std.proofs.lemmas.Bool.{true≢false, and_parts, ltb-true, and_from, eqb-true}
+pub use Rattle.std.proofs.lemmas.Bool.{eqb-false, not-true, not_from_false, or_parts, ne_eqb}
 pub use Rattle.std.proofs.lemmas.Bool.{eq-eqb, or_cases, or_left, or_right, le-ltb}
-pub use Rattle.std.proofs.lemmas.List.{length-append, length-set, get_or-set_other, map-append, take_at, length-map}
-pub use Rattle.std.proofs.lemmas.List.{get_or_append_left, get_or_push, get_or-drop, get_or-set_same, take_all}
-pub use Rattle.std.proofs.lemmas.List.{drop_more, get_or_past, flat_map_more, drop_at}
-pub use Rattle.std.proofs.lemmas.List.Sums.{sum_by_push, sum_by-set, sum_by-cons, sum_by-take-drop}
-pub use Rattle.std.proofs.lemmas.Option.{none-some, same_Some, slice_get_read, get_or_from_slice_get}
+pub use Rattle.std.proofs.lemmas.List.{length-append, map-append, take_at, length-map}
+pub use Rattle.std.proofs.lemmas.List.{flat_map_more, drop_at}
+pub use Rattle.std.proofs.lemmas.Option.{none-some, same_Some, slice_get_read}
 pub use Rattle.std.proofs.lemmas.Result.{err_from_is_err_and, on_ok_weaker}
 pub use Rattle.std.specs.Io.KnownBytes.{Appends, Consumes, IsAtEnd, Keeps}
 pub use Rattle.std.specs.List.{AllByRecursion, flat_map}
@@ -22,24 +20,13 @@ pub use Rattle.std.specs.Map.{lookup}
 pub use Rattle.sftp_handles.proofs.TotalSteps.{bytes-by}
 pub use Rattle.sftp_handles.specs.Allowed.{Allowed}
 unfoldable pub use Rattle.sftp_treefile.specs.TreeFile.{are_far}
-pub use Rattle.sftp_tree.specs.Tree.{limits}
-pub use Rattle.sftp_handles.specs.Clash.{Touched, share, share_room, untouched, everything, reads_file, writes_file}
 unfoldable pub use Rattle.sftp_handles.specs.Clash.{touched, clash}
 unfoldable pub use Rattle.sftp_handles.specs.State.{pins_of}
-pub use Rattle.sftp_handles.specs.Clash.{are_apart, may_resize}
 unfoldable pub use Rattle.sftp_handles.specs.Clash.{range, range_clash}
-pub use Rattle.sftp_handles.specs.Spans.{ends_of, file_in, size_in, range_now}
-unfoldable pub use Rattle.sftp_handles.specs.Spans.{spanned}
 pub use Rattle.sftp_handles.specs.State.{State, Good, started, closed_tree, settled}
-pub use Rattle.sftp_handles.specs.Clash.{touched_as}
-pub use Rattle.sftp_handles.specs.declared.byte_range.ByteRange.{ByteRange}
-pub use Rattle.sftp_handles.specs.declared.byte_range.Span.{Span}
-pub use Rattle.sftp_handles.specs.declared.touch.Touch.{Touch}
-pub use Rattle.sftp_handles.specs.declared.touch.Touch.TheVariants.{Everything, Nothing, WritesFile}
 pub use Rattle.sftp_packets.specs.Layouts.{IsAsk}
 pub use Rattle.sftp_packets.proofs.PacketLaws.{version_spelled}
 pub use Rattle.sftp_packets.specs.Spelling.{FitsString, packet_limit}
-pub use Rattle.sftp_packets.specs.Requests.{server_extensions, asked_handle}
 pub use Rattle.sftp_packets.specs.Packets.{HasSpelling, side_of}
 unfoldable pub use Rattle.sftp_packets.specs.Packets.{spelling}
 pub use Rattle.sftp_packets.specs.declared.errors.WireError.TheVariants.{Unreadable}
@@ -77,7 +64,7 @@ unfoldable pub use Rattle.sftp_strings.specs.Hexadecimal.{hex}
 pub use Rattle.sftp_wire.specs.Fronts.{place_after}
 pub use Rattle.sftp_wire.specs.Fronts.{StandsInFront}
 unfoldable pub use Rattle.sftp_wire.specs.Fronts.{front_of}
-pub use mathlib.Core.Bool.{or-true, and-false, and-true, or-false, or_assoc, or_comm}
+pub use mathlib.Core.Bool.{or-true, and-false, or-false, or_assoc, or_comm}
 pub use Rattle.sftp_server.specs.Queue.{choices_at, choices_of, IsPossible, steps_left}
 unfoldable pub use Rattle.sftp_server.specs.Queue.{choices_from, owed}
 pub use Rattle.sftp_server.specs.Machine.{server_clash, HasGoodReply, IsSendable, IsCore, IsValue, IsReached, IsRefusedFor}
@@ -89,15 +76,8 @@ pub use Rattle.sftp_server.specs.Machine.{Machine, ClashOf, is_sent, is_ready, r
 pub use Rattle.sftp_server.specs.Machine.{ready_in, reply_of, is_pending_at, pending_in, reply_in, at_start, taken}
 pub use Rattle.sftp_server.specs.Machine.{can_take, IsIdle, IsDelivery, IsWork, IsSend, IsAct, AreActs, Delivers}
 unfoldable pub use Rattle.sftp_server.specs.Machine.{is_free_of, from_unsent, is_unsent}
-pub use Rattle.sftp_server.specs.Queue.{request_in, pending_at, HasReply, sent_in, IsQueue}
+pub use Rattle.sftp_server.specs.Queue.{request_in, pending_at, HasReply, sent_in, IsQueue, clashes_in}
 unfoldable pub use Rattle.sftp_server.specs.Queue.{with_progress, AreUnsentApart}
-pub use Rattle.sftp_server.specs.Sessions.{Aim, aim_in, Portion, portion_in, portion_of, portions_clash, resized_by}
-pub use Rattle.sftp_server.specs.Sessions.{resized, is_on, is_of, extent_now, is_clear}
-pub use Rattle.sftp_server.specs.Readiness.{blank, note_at, as_count, possible_count, AreNotes, ask_in, ask_at}
-pub use Rattle.sftp_server.specs.Readiness.{touched_at, aim_at, portion_now, is_in_way, IsNoted, IsFree, IsBlocked}
-pub use Rattle.sftp_server.specs.Readiness.{IsLinked, IsLate, AreBlockedBut, AreNotReadyOn}
-pub use Rattle.sftp_server.specs.Readiness.{IsMarked, AreBlockedButOn, IsMarkedAsked, only_reads}
-pub use Rattle.sftp_server.specs.Readiness.{IsPlaced, IsFreeFrom, AreAlike, IsSettling, touches_file}
 pub use Rattle.sftp_server.specs.Served.{IsOpened, session_packets, recorded, IsListed, IsBeginning, IsCutInLast}
 pub use Rattle.sftp_server.specs.Served.{StreamBytes, stream_bytes, Passed, EndsSession, IsUnopenedBy, IsServed, Serves}
 pub use Rattle.sftp_server.specs.Served.{spelled_if, our_version, IsGreeting, IsNoGreeting, opened_record}
@@ -113,7 +93,5 @@ pub use Rattle.sftp_server.specs.declared.opening.First.{First}
 pub use Rattle.sftp_server.specs.declared.queue.Entry.{Entry}
 pub use Rattle.sftp_server.specs.declared.queue.Progress.{Progress}
 pub use Rattle.sftp_server.specs.declared.queue.Progress.TheVariants.{Pending, Done, Sent}
-pub use Rattle.sftp_server.specs.declared.readiness.Note.{Note}
-pub use Rattle.sftp_server.specs.declared.extents.Extent.{Extent}
 pub use Rattle.sftp_server.specs.declared.refusals.Refuse.{Refuse}
 pub use Rattle.sftp_server.specs.declared.taking.Front.{Front}

@@ -1,14 +1,7 @@
 pub mod Imports
 pub mod Queues
-pub mod RangedNotes
-pub mod NotePlaces
-pub mod DoneNotes
-pub mod SentNotes
-pub mod NewNotes
 pub mod ReadyLaws
 pub mod Machines
 pub mod Sessions
 pub mod ScriptLaws
 pub mod Worked
-pub mod Notes
-pub mod Settling

@@ -5,6 +5,5 @@ pub mod Left
 pub mod Examples
 -- Words of private contracts alone.
 pub mod Queue
-pub mod Readiness
 pub mod Sessions
 pub mod Ending

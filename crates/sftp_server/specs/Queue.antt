@@ -21,6 +21,11 @@ request_in (Some entry) = if is_pending entry.progress then Some entry.request e
 abbrev pub pending_at : List Entry → ℕ → Option Request
 pending_at queue k = request_in (slice_get queue k)
 
+-- a request that there may be conflicts with a later one
+abbrev pub clashes_in : {S : Type 0} → ClashOf S → S → Option Request → Request → Bool
+clashes_in clash s None later = false
+clashes_in clash s (Some earlier) later = clash s earlier later
+
 abbrev pub sent_in : Option Entry → Bool
 sent_in None = false
 sent_in (Some entry) = is_sent entry.progress

@@ -1,14 +1,8 @@
 -- A session of the server while it runs: what it read, wrote and logged since it began, and which requests it has
 -- (draft-ietf-secsh-filexfer-02, sections 3 to 7). Words of private contracts: no public one reaches this file.
-use Rattle.std.specs.Prelude.{◌==◌, ◌&&◌, ◌||◌, ◌≤◌, not, ℕ, Bool, false, Option, Some, None, ◌≡◌, ◌≢◌, ◌⊎◌, List, []}
+use Rattle.std.specs.Prelude.{not, ℕ, false, Option, Some, None, ◌≡◌, ◌≢◌, ◌⊎◌, List, []}
 use Rattle.std.specs.Prelude.{◌++◌, length, Result, Err, MatchResult, IsTrue, drop}
-use Rattle.sftp_packets.specs.declared.requests.Ask.{Ask}
-use Rattle.sftp_handles.specs.declared.byte_range.ByteRange.{ByteRange}
 use Rattle.sftp_handles.specs.State.{State, Good, started, closed_tree}
-use Rattle.sftp_handles.specs.Clash.{Touched, reads_file, writes_file, share, share_room, touched}
-use Rattle.sftp_handles.specs.Clash.{range, range_within, are_apart}
-use Rattle.sftp_handles.specs.Spans.{spanned, file_in, size_in, range_now}
-use Rattle.sftp_server.specs.declared.extents.Extent.{Extent}
 use Rattle.std.specs.List.{AllByRecursion}
 use Rattle.std.specs.Io.KnownBytes.{Appends, IsAtEnd, Keeps}
 use Rattle.sftp_packets.specs.declared.errors.WireError.TheVariants.{Unreadable}
@@ -22,8 +16,7 @@ use Rattle.sftp_streams.specs.Streams.{AppendsPart}
 use Rattle.sftp_transcript.specs.Log.{Log, opened_text}
 use Rattle.sftp_transcript.specs.Transcript.{record_text, IsEvent}
 use Rattle.sftp_transcript.specs.Explained.{window}
-use Rattle.sftp_tree.specs.Tree.{Tree, limits}
-use Rattle.sftp_treefile.specs.TreeFile.{are_far}
+use Rattle.sftp_tree.specs.Tree.{Tree}
 use Rattle.sftp_server.specs.declared.ends.Ended.{Ended}
 use Rattle.sftp_server.specs.declared.ends.Ended.TheVariants as ends
 use Rattle.sftp_server.specs.declared.ends.SessionEnd.{SessionEnd}
@@ -40,91 +33,6 @@ use Rattle.sftp_server.specs.Served.{session_packets, sent_by, recorded, IsGreet
 use Rattle.sftp_server.specs.Served.{BeginsWithInit, EndsSession, StreamBytes, stream_bytes, Passed}
 use Rattle.sftp_server.specs.Served.{Setup, ServesFrom, CountsEnd}
 use Rattle.sftp_server.specs.Left.{Leaves, LeavesFrom}
-
--- ==== What the requests of a queue touch, and where. What a request touches and its span stay while requests are done
--- that do not touch everything, and so a note may keep both. The range that it keeps to is its span, if its file is as
--- long as that: that changes, and only by a request that may change the length of the file.
-
--- ---- what a request touches, and where
-
--- what a request touches, and its span, if it has one
-abbrev pub Aim : Type 0
-Aim = Touched × Option (ℕ × ℕ)
-
-abbrev pub aim_in : State → Ask → Aim
-aim_in s ask = (touched s ask, spanned s ask)
-
--- What a request touches, and the range of its file that it keeps to, if it keeps to one within the file; and whether
--- the tree bounds the bytes of all files together.
-pub record Portion : Type 0 where
-  pub bounded : Bool
-  pub touched : Touched
-  pub range : Option ByteRange
-
-abbrev pub portion_in : State → Ask → Portion
-portion_in s ask = record { bounded = are_far (limits s.tree); touched = touched s ask; range = range s ask }
-
--- the portion that this is in a state
-abbrev pub portion_of : State → Aim → Portion
-portion_of s aim = record {
-  bounded = are_far (limits s.tree);
-  touched = aim.0;
-  range = range_now s (file_in aim.0) aim.1;
-}
-
--- whether two requests share these, ranges compared
-abbrev pub portions_share : Portion → Portion → Bool
-portions_share a b = share a.touched b.touched && not (are_apart a.range b.range)
-
--- whether two requests conflict that touch these: they share room, or what they touch
-abbrev pub portions_clash : Portion → Portion → Bool
-portions_clash a b = (a.bounded && share_room a.touched b.touched) || portions_share a b
-
--- ---- a request that may change the length of its file
-
--- the file, if it may: it is written, and no range within it is kept to
-abbrev pub resized_by : Touched → Option ByteRange → Option ℕ
-resized_by (writes_file number) None = Some number
-resized_by _ _ = None
-
-abbrev pub resized : Portion → Option ℕ
-resized p = resized_by p.touched p.range
-
--- whether the file of the number is touched, and nothing else
-abbrev pub is_on : ℕ → Touched → Bool
-is_on number (reads_file n) = n == number
-is_on number (writes_file n) = n == number
-is_on number _ = false
-
--- the same of a file that there may be
-abbrev pub is_of : Option ℕ → Touched → Bool
-is_of None at = false
-is_of (Some number) at = is_on number at
-
--- ---- as the code compares ranges: the one of the later request is found once, and those of others by the same size
-
-abbrev pub extent_of : ℕ → Option ByteRange → Option Extent
-extent_of size None = None
-extent_of size (Some range) = Some (record { range = range; size = size })
-
-abbrev pub extent_sized : ℕ → Option (ℕ × ℕ) → Option ℕ → Option Extent
-extent_sized number None size = None
-extent_sized number (Some ends) None = None
-extent_sized number (Some ends) (Some size) = extent_of size (range_within number size (Some ends))
-
--- the range of a file that is this span in a state, and how long the file is
-abbrev pub extent_now : State → Option ℕ → Option (ℕ × ℕ) → Option Extent
-extent_now s None ends = None
-extent_now s (Some number) ends = extent_sized number ends (size_in s number)
-
--- the range starts within its file
-abbrev pub StartsWithin : Extent → Type 0
-StartsWithin extent = extent.range.start ≤ extent.size
-
--- whether a span, if it is one of that file, ends within it and does not meet the range
-abbrev pub is_clear : Option Extent → Option (ℕ × ℕ) → Bool
-is_clear None ends = false
-is_clear (Some extent) ends = are_apart (range_within extent.range.number extent.size ends) (Some extent.range)
 
 -- ---- the whole
 

@@ -1,6 +1,6 @@
 //! The core of a server: takes requests, does them, and gives their replies
 //! (draft-ietf-secsh-filexfer-02, section 6.1).
-ghost use Rattle.std.specs.Prelude.{◌≡◌, ◌≢◌, ◌≤◌, [], false, length, IsTrue, IfOk, IfErr, OnOk, OnErr, IfSome};
+ghost use Rattle.std.specs.Prelude.{◌≡◌, ◌≢◌, ◌≤◌, [], ◌∷◌, false, length, IsTrue, IfOk, IfErr, OnOk, OnErr, IfSome};
 ghost use Rattle.std.specs.Prelude.{IfNone};
 ghost use Rattle.std.specs.Prelude.{◌↔◌, ◌<◌, nat_lt, Some, if◌then◌else◌, is_some, slice_get};
 ghost use Rattle.sftp_packets.specs.declared.packets.Packet.TheVariants.{Reply as reply_packet};
@@ -15,12 +15,11 @@ ghost use Rattle.sftp_server.specs.declared.refusals.Refuse.TheVariants.{NoMemor
 ghost use Rattle.sftp_server.specs.Machine.{is_unsent};
 ghost use Rattle.sftp_server.specs.Machine.{at_start, taken, can_take, is_ready, is_pending_at, reply_at, IsWorked};
 ghost use Rattle.sftp_server.specs.Machine.{IsSent, from_unsent};
-ghost use Rattle.sftp_server.specs.Queue.{choices_of};
+ghost use Rattle.sftp_server.specs.Queue.{choices_of, choices_at, IsPossible};
 ghost use Rattle.sftp_server.specs.Machine.{server_clash, IsRefusedFor};
 
 use crate::answerers::{Answerer, Plain};
 use crate::queue::Queue;
-use crate::readiness::Readiness;
 use crate::refusals::{Did, Refuse};
 use sftp_handles::{HandleTable, Session};
 use sftp_tree::{NoMemory, Tree};
@@ -43,8 +42,6 @@ pub(crate) enum Choice {
 pub struct Core<T: HandleTable> {
     session: Session<T>,
     queue: Queue,
-    /// Which requests of the queue are ready.
-    readiness: Readiness,
     window: usize,
 }
 
@@ -52,13 +49,12 @@ impl<T: HandleTable> Model for Core<T> {
     ghost use Rattle.sftp_handles.specs.State.{State};
     ghost use Rattle.sftp_server.specs.Machine.{Machine};
     ghost use Rattle.sftp_server.specs.Machine.{IsCore};
-    ghost use Rattle.sftp_server.specs.Readiness.{KeepsNotes};
 
     ghost Value = { Machine State };
 
     ghost view = { λ c. record { state = c.session; window = c.window; queue = c.queue } };
 
-    ghost invariant = { λ c. IsCore c.window c.queue × KeepsNotes c.session c.queue c.readiness };
+    ghost invariant = { λ c. IsCore c.window c.queue };
 }
 
 impl<T: HandleTable> Core<T> {
@@ -77,7 +73,6 @@ impl<T: HandleTable> Core<T> {
         Ok(Core {
             session: Session::new(tree)?,
             queue: Queue::new(alloc),
-            readiness: Readiness::new(alloc),
             window,
         })
     }
@@ -115,16 +110,7 @@ impl<T: HandleTable> Core<T> {
         ensures returned { IfErr result (λ r. r ≡ request) }
         ensures err { OnErr result (self.new ≡ self.old) }
     {
-        if self.readiness.reserve().is_err() {
-            return Err(request);
-        }
-        match self.queue.push(request) {
-            Ok(()) => {
-                self.readiness.push(&self.session, &self.queue);
-                Ok(())
-            }
-            Err(request) => Err(request),
-        }
+        self.queue.push(request)
     }
 
     /// Why a request with this id cannot be taken, memory aside.
@@ -149,7 +135,7 @@ impl<T: HandleTable> Core<T> {
     pub fn ready(&self, k: usize) -> bool
         ensures { result ≡ is_ready server_clash self.now k }
     {
-        self.readiness.is_ready(k)
+        self.queue.ready(&self.session, k)
     }
 
     /// Does the request at this position if it is ready, and answers it as `Session::answer` does. Unless the result is
@@ -197,12 +183,8 @@ impl<T: HandleTable> Core<T> {
         let Some(request) = self.queue.pending(k) else {
             return Ok(Did::NoSuch);
         };
-        // Asked while the request is still to be done: it depends on how long the file is.
-        let file = self.readiness.resized(&self.session, k);
         let reply = answerer.answer(&mut self.session, request)?;
         self.queue.complete(k, reply);
-        self.readiness.mark_done(k);
-        self.readiness.refresh(&self.session, &self.queue, k, file);
         Ok(Did::Done)
     }
 
@@ -225,14 +207,7 @@ impl<T: HandleTable> Core<T> {
         ensures spelled { IfSome result (λ reply. HasSpelling (reply_packet reply)) }
         ensures unchanged { IfNone result (self.new ≡ self.old) }
     {
-        let before = self.queue.len();
-        match self.queue.send(k) {
-            Some(reply) => {
-                self.readiness.mark_sent(k, before - self.queue.len());
-                Some(reply)
-            }
-            None => None,
-        }
+        self.queue.send(k)
     }
 
     /// The position of the unanswered request with this id.
@@ -252,12 +227,19 @@ impl<T: HandleTable> Core<T> {
         self.queue.is_done(k)
     }
 
-    /// How many acts are possible: requests that are ready, and replies to be sent.
+    /// How many acts are possible: requests that are ready, and replies to be sent. Compares each request that is
+    /// pending with those before it.
     pub(crate) fn choices(&self) -> usize
         ensures count { result ≡ length (choices_of server_clash self.now) }
         ensures front { from_unsent self.now.queue ≡ self.now.queue }
     {
-        self.readiness.possible()
+        let mut count = 0;
+        let mut k = 0;
+        'each: while k < self.queue.len() {
+            count += self.choices_at(k);
+            k += 1;
+        }
+        count
     }
 
     /// The act of this number, from 0, among those possible, in the order of the queue.
@@ -265,8 +247,46 @@ impl<T: HandleTable> Core<T> {
         requires { number < length (choices_of server_clash self.now) }
         ensures { slice_get (choices_of server_clash self.now) number ≡ Some result }
     {
-        let k = self.readiness.choice(number);
-        if self.readiness.is_pending(k) {
+        let mut left = number;
+        let mut k = 0;
+        'each: while k < self.queue.len() {
+            let here = self.choices_at(k);
+            if left < here {
+                return self.act_at(k);
+            }
+            left -= here;
+            k += 1;
+        }
+        unreachable!()
+    }
+
+    /// The first of the acts that are possible, if one is. It is at the front: nothing is before that, so there is no
+    /// search.
+    pub(crate) fn first(&self) -> Option<Choice>
+        ensures possible { IfSome result (IsPossible server_clash self.now) }
+        ensures none { IfNone result (self.now.queue ≡ []) }
+    {
+        if self.queue.is_pending(0) {
+            Some(Choice::Work(0))
+        } else if self.is_done(0) {
+            Some(Choice::Send(0))
+        } else {
+            None
+        }
+    }
+
+    /// How many acts are possible at this position: 1 or 0.
+    fn choices_at(&self, k: usize) -> usize
+        ensures { result ≡ length (choices_at server_clash self.now k) }
+    {
+        (self.ready(k) || self.is_done(k)) as usize
+    }
+
+    /// The act at this position, if one is possible there.
+    fn act_at(&self, k: usize) -> Choice
+        ensures { 0 < length (choices_at server_clash self.now k) → choices_at server_clash self.now k ≡ result ∷ [] }
+    {
+        if self.queue.is_pending(k) {
             Choice::Work(k)
         } else {
             Choice::Send(k)
@@ -297,7 +317,6 @@ impl<T: HandleTable> Core<T> {
         ensures { result ≡ closed_tree self.state }
     {
         drop(self.queue);
-        drop(self.readiness);
         self.session.into_tree()
     }
 }

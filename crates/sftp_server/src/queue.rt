@@ -1,15 +1,16 @@
 //! The queue of a server: its requests from the first unanswered one on.
-ghost use Rattle.std.specs.Prelude.{◌≡◌, ◌≤◌, ◌↔◌, ◌++◌, [], ◌∷◌, IsTrue, false, length};
+ghost use Rattle.std.specs.Prelude.{◌≡◌, ◌↔◌, ◌++◌, [], ◌∷◌, IsTrue, false, length, take};
 ghost use Rattle.std.specs.Prelude.{IfErr, OnOk, OnErr, IfSome, IfNone, is_some, option_copied, slice_get};
 ghost use Rattle.std.specs.Option.{option_map};
 ghost use Rattle.sftp_server.specs.declared.queue.Progress.TheVariants as progress;
-ghost use Rattle.sftp_server.specs.Machine.{is_unsent, is_pending_at, reply_at, from_unsent};
-ghost use Rattle.sftp_server.specs.Queue.{pending_at, with_progress, sent_in, HasReply};
-ghost use Rattle.sftp_server.specs.Readiness.{ask_at};
+ghost use Rattle.sftp_server.specs.Machine.{is_unsent, is_pending_at, reply_at, from_unsent, ready_in, is_free_of};
+ghost use Rattle.sftp_server.specs.Machine.{server_clash};
+ghost use Rattle.sftp_server.specs.Queue.{pending_at, with_progress, sent_in, HasReply, clashes_in};
 
 use crate::refusals::Refuse;
 use indexmap::IndexMap;
-use sftp_wire::{Ask, Reply, Request};
+use sftp_handles::{HandleTable, Session};
+use sftp_wire::{Reply, Request};
 use std::alloc::Global;
 use std::collections::VecDeque;
 use std::marker::Model;
@@ -127,17 +128,6 @@ impl Queue {
         }
     }
 
-    /// What the request at this position asks.
-    pub(crate) fn ask(&self, k: usize) -> Option<&Ask>
-        ensures ask { IfSome result (λ ask. ask.now ≡ ask_at self.now k) }
-        ensures none { IfNone result (length self.now ≤ k) }
-    {
-        match self.entry(k) {
-            Some(entry) => Some(&entry.request.ask),
-            None => None,
-        }
-    }
-
     /// Whether the request at this position is pending.
     pub(crate) fn is_pending(&self, k: usize) -> bool
         ensures { result ≡ is_pending_at self.now k }
@@ -179,6 +169,45 @@ impl Queue {
                 Progress::Done(_) => entry.request.id == id,
                 Progress::Sent => false,
             },
+            None => false,
+        }
+    }
+
+    /// Whether the request at this position is pending, and conflicts with no earlier one that is.
+    pub(crate) fn ready<T: HandleTable>(&self, session: &Session<T>, k: usize) -> bool
+        ensures { result ≡ ready_in server_clash session.now (take k self.now) (slice_get self.now k) }
+    {
+        match self.pending(k) {
+            Some(request) => self.is_free(session, k, request),
+            None => false,
+        }
+    }
+
+    /// Whether no request before this position is pending and conflicts with this one, which was asked later.
+    fn is_free<T: HandleTable>(&self, session: &Session<T>, k: usize, request: &Request) -> bool
+        ensures { result ≡ is_free_of server_clash session.now (take k self.now) request.now }
+    {
+        let mut j = k;
+        'down: while j > 0 {
+            j -= 1;
+            if self.is_in_way(session, j, request) {
+                return false;
+            }
+        }
+        true
+    }
+
+    /// Whether the request at this position is pending and conflicts with this one, which was asked later.
+    pub(crate) fn is_in_way<T: HandleTable>(
+        &self,
+        session: &Session<T>,
+        j: usize,
+        request: &Request,
+    ) -> bool
+        ensures { result ≡ clashes_in server_clash session.now (pending_at self.now j) request.now }
+    {
+        match self.pending(j) {
+            Some(earlier) => session.clash(earlier, request),
             None => false,
         }
     }

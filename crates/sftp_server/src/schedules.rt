@@ -21,6 +21,12 @@ pub trait Schedule {
     /// modulo `count` is done.
     fn pick(&mut self, count: usize) -> usize;
 
+    /// Whether each choice from now on is the first possible act. If so, that act is done without a call of `pick`, and
+    /// no other is looked for.
+    fn is_in_order(&self) -> bool {
+        false
+    }
+
     /// The next step of the script; `None` at its end. A schedule without a script has none.
     fn step(&mut self) -> Option<Step> {
         None
@@ -42,6 +48,10 @@ impl Schedule for InOrder {
         ensures first { result ≡ 0 }
     {
         0
+    }
+
+    fn is_in_order(&self) -> bool {
+        true
     }
 }
 

@@ -592,6 +592,15 @@ impl Schedule for Order {
         }
     }
 
+    fn is_in_order(&self) -> bool {
+        match self {
+            Order::Asked(order) => order.is_in_order(),
+            Order::Shuffled(..) => false,
+            // Without its script.
+            Order::Replayed(..) => true,
+        }
+    }
+
     fn step(&mut self) -> Option<Step> {
         match self {
             // Without a script, the requests that wait are answered next, and then the session ends.
