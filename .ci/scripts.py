@@ -11,7 +11,10 @@ from collections.abc import Iterator
 from crates import TOP
 
 # What reads scripts in Python for mistakes, not for their layout: the first of these that is installed.
-READERS = (["ruff", "check", "--quiet", "--isolated", "--no-cache", "--select", "E9,F"], ["pyflakes3"], ["pyflakes"])
+READERS = (["ruff", "check", "--quiet", "--no-cache", "--config", "pyproject.toml"], ["pyflakes3"], ["pyflakes"])
+
+# What checks types, with the settings of pyproject.toml, and the layers of the package that are checked.
+TYPES, TYPED = ["mypy", "--no-error-summary", "--cache-dir=/dev/null"], ("codec",)
 
 # Most files, which are not looked into for a first line.
 NO_SCRIPTS = (".antt", ".edit", ".rt")
@@ -96,6 +99,11 @@ def too_new(names: list[str]) -> Iterator[str]:
                 yield f"{name}:{node.lineno}: a union in an annotation, without `from __future__ import annotations`"
 
 
+def wrong_types() -> list[str]:
+    """Finds mistakes of types in the layers that the others stand on."""
+    return said([*TYPES, *(f"python/sftpv3/{it}" for it in TYPED)]) if shutil.which(TYPES[0]) else []
+
+
 def wrong_shell(names: list[str]) -> Iterator[str]:
     found = [*scripts(names, "sh"), *scripts(names, "bash")]
     if found and shutil.which("shellcheck"):
@@ -121,5 +129,7 @@ def skipped() -> Iterator[str]:
     """Yields a line for each program that is not there, and what is therefore not checked."""
     if not reader():
         yield "neither ruff nor pyflakes is installed: of scripts in Python only the syntax is checked"
+    if not shutil.which(TYPES[0]):
+        yield "mypy is not installed: types are not checked"
     if not shutil.which("shellcheck"):
         yield "shellcheck is not installed: of shell scripts only the syntax is checked"

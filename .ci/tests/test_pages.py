@@ -66,7 +66,8 @@ class Scripts(unittest.TestCase):
     def test_says_what_is_not_there(self):
         with mock.patch.object(shutil, "which", lambda _: None):
             self.assertEqual([it.partition(":")[0] for it in scripts.skipped()],
-                             ["neither ruff nor pyflakes is installed", "shellcheck is not installed"])
+                             ["neither ruff nor pyflakes is installed", "mypy is not installed",
+                              "shellcheck is not installed"])
             self.assertEqual(list(scripts.wrong_python(self.script("#!/usr/bin/env python3\nimport os\n"))), [])
 
 

@@ -11,7 +11,7 @@ from walk_trials.runs import BETWEEN, make_live
 # What a night says of a session in which a request has no reply. A record does not have why.
 ENDS_BEFORE = "the record ends before the server's reply to 1 request"
 
-# Faults of walk_trials/between.py, and what a night says of a session with a server that has it.
+# Faults of broken/between.py, and what a night says of a session with a server that has it.
 FAULTS = [
     ("Healthy", 0, ": accepted "),
     ("name_left_out", 1, 'expected: NAME with some of the names left: "f" (1 in all)'),

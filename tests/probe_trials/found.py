@@ -11,7 +11,7 @@ from sftpv3.system.program import TOP, program
 from trials.other_servers import has_openssh
 from trials.probes import groups_of, misbehaving, planted
 
-# Servers of probing/misbehaving.py, how many requests are in flight, and what is found in one of the groups.
+# Servers of broken/misbehaving.py, how many requests are in flight, and what is found in one of the groups.
 FOUND = [
     ("fifth-refusal", None, "STATUS with code 0 (OK)"),
     ("one-unanswered", 1, "no reply in time"),

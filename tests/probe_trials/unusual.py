@@ -7,7 +7,7 @@ from sftpv3.system.program import TOP, program
 from trials.other_servers import SFTP_SERVER, has_openssh
 from trials.probes import SERVE, faulty_before, misbehaving, serve, stand_in
 
-# Servers of probing/unusual.py that are accepted as they are.
+# Servers of broken/unusual.py that are accepted as they are.
 ACCEPTED = ["many-extensions", "one-name", "single-bytes", "noisy", "failed-at-end", "late"]
 
 # Those that need words, which a line tells; and more options of `serve`.

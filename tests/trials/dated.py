@@ -1,4 +1,4 @@
-"""Short sessions that set times, and what `probing/set_times.py` has to find in them: the words, or nothing."""
+"""Short sessions that set times, and what `probe/set_times.py` has to find in them: the words, or nothing."""
 from sftpv3 import codec
 from sftpv3.codec import Packet
 from sftpv3.probe import set_times

@@ -7,6 +7,7 @@ are there.
 from __future__ import annotations
 
 import struct
+from typing import Any
 
 SIZE, OWNER, PERMISSIONS, TIMES, EXTENDED = 1, 2, 4, 8, 0x80000000
 KNOWN = SIZE | OWNER | PERMISSIONS | TIMES | EXTENDED
@@ -39,7 +40,7 @@ def pairs(given: list[tuple[bytes, bytes]]) -> bytes:
     return b"".join(string(name) + string(data) for name, data in given)
 
 
-def attributes(given: dict) -> bytes:
+def attributes(given: dict[str, Any]) -> bytes:
     flags, data = 0, b""
     if "size" in given:
         flags, data = flags | SIZE, data + uint64(given["size"])
@@ -54,7 +55,7 @@ def attributes(given: dict) -> bytes:
     return uint32(flags) + data
 
 
-def names(items: list[tuple[bytes, bytes, dict]]) -> bytes:
+def names(items: list[tuple[bytes, bytes, dict[str, Any]]]) -> bytes:
     """What a NAME lists: each name, its long name and its attributes."""
     return uint32(len(items)) + b"".join(string(name) + string(long) + attributes(it) for name, long, it in items)
 
@@ -103,7 +104,7 @@ class Fields:
             found.append((self.string(), self.string()))
         return found
 
-    def attributes(self) -> dict:
+    def attributes(self) -> dict[str, Any]:
         flags, found = self.uint32(), {}
         if self.strict and flags & ~KNOWN:
             raise Malformed("attributes have a flag that is not known", "Flags")
@@ -119,5 +120,5 @@ class Fields:
             found["extended"] = [(self.string(), self.string()) for _ in range(self.uint32())]
         return found
 
-    def names(self) -> list[tuple[bytes, bytes, dict]]:
+    def names(self) -> list[tuple[bytes, bytes, dict[str, Any]]]:
         return [(self.string(), self.string(), self.attributes()) for _ in range(self.uint32())]

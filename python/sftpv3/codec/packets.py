@@ -6,6 +6,8 @@ as it can be read; `read` and `front` read by the letter, and name the first fau
 """
 from __future__ import annotations
 
+from typing import Any
+
 from sftpv3.codec import fields
 from sftpv3.codec.fields import Fields, Malformed, pairs, string, uint32
 
@@ -24,7 +26,7 @@ CODES = {OK: "OK", EOF: "EOF", NO_SUCH_FILE: "NO_SUCH_FILE", PERMISSION_DENIED: 
          OP_UNSUPPORTED: "OP_UNSUPPORTED"}
 
 
-def code_name(code):
+def code_name(code: int) -> str:
     """What a code of a STATUS is called."""
     return CODES.get(code, "no code of version 3")
 
@@ -196,7 +198,7 @@ def names_in(data: bytes) -> list:
     return Fields(data[9:]).names()
 
 
-def attributes_in(data: bytes) -> dict:
+def attributes_in(data: bytes) -> dict[str, Any]:
     return Fields(data[9:]).attributes()
 
 

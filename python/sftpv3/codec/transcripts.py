@@ -1,7 +1,7 @@
 """Transcript files, both ways (docs/FORMATS.md): records, which are pairs of a side, `C` or `S`, and a packet."""
 from __future__ import annotations
 
-from collections.abc import Iterable
+from collections.abc import Iterable, Iterator
 
 from sftpv3.codec.fields import Malformed
 from sftpv3.codec.packets import CLIENT, LONGEST, SERVER, SIDES, Packet, front, init, length, version
@@ -58,7 +58,7 @@ def record_at(transcript: bytes, at: int, number: int) -> tuple[bytes, bytes, Pa
     return (side, *found)
 
 
-def each_record(transcript: bytes):
+def each_record(transcript: bytes) -> Iterator[tuple[bytes, bytes, Packet]]:
     """Yields the side, the bytes and the packet of each record, by the letter; then Malformed with the first fault."""
     if not transcript.startswith(OPENING):
         raise fault(0, "Magic")

@@ -1,7 +1,13 @@
 """Tree files, both ways (docs/FORMATS.md), and the texts of places (docs/TREE.md)."""
 from __future__ import annotations
 
+from collections.abc import Callable
+from typing import Any, BinaryIO, TypeVar
+
 from sftpv3.codec.fields import Fields, Malformed, string, uint32, uint64
+
+# What is read.
+T = TypeVar("T")
 
 # A file of the second kind has limits of its own, and one of the third kind limits that are higher, or times.
 OPENING, OPENING_WITH_LIMITS, OPENING_WIDE = b"SFTREE01", b"SFTREE02", b"SFTREE03"
@@ -136,7 +142,7 @@ def head(home: bytes, owner: tuple[int, int], limits: tuple[int, ...], count: in
     return opening + string(home) + uint32(*owner) + limits_text(opening, limits) + uint32(count) + of_root
 
 
-def put_owner(file, owner: tuple[int, int]) -> None:
+def put_owner(file: BinaryIO, owner: tuple[int, int]) -> None:
     """Changes, in a tree file that is open, the user and the group of what is made."""
     file.seek(len(OPENING))
     home = Fields(file.read(4)).uint32()
@@ -200,7 +206,7 @@ class Reader:
         if not holds:
             raise self.fault(kind)
 
-    def field(self, read, *words):
+    def field(self, read: Callable[..., T], *words: Any) -> T:
         try:
             return read(*words)
         except Malformed:

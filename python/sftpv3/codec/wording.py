@@ -1,9 +1,12 @@
 """A packet as a person reads it: its name, its id, one line, and its fields."""
+from __future__ import annotations
+
 import bisect
 import itertools
 import string
+from collections.abc import Callable, Sequence
 from dataclasses import dataclass, field
-from typing import List, Optional, Tuple
+from typing import Any
 
 from sftpv3 import codec
 from sftpv3.codec.packets import FLAGS
@@ -25,13 +28,13 @@ class Packet:
     """What a packet says. Of one that cannot be read, `name` is `raw`, and `trouble` says why."""
 
     name: str
-    number: Optional[int] = None
+    number: int | None = None
     line: str = ""
-    fields: List[Tuple[str, str]] = field(default_factory=list)
+    fields: list[tuple[str, str]] = field(default_factory=list)
     trouble: str = ""
 
 
-def quoted(data, most=None):
+def quoted(data: bytes, most: int | None = None) -> str:
     """A text as `sftpv3 show` prints it, cut after so many signs, and told how many bytes more it has."""
     signs = [SIGNS[byte] for byte in data[:most]]
     count = len(signs)
@@ -41,19 +44,19 @@ def quoted(data, most=None):
     return '"' + "".join(signs[:count]) + '"' + more
 
 
-def clean(text):
+def clean(text: str) -> str:
     """A text that may hold anything, without characters that a page or XML must not have, or that hide others."""
     return "".join(sign if sign in "\t\n" or sign.isprintable() else escaped(sign) for sign in text)
 
 
-def line(text):
+def line(text: str) -> str:
     """The same as one line of a terminal: without line feeds and tabs, too."""
     if text.isprintable():
         return text
     return "".join(sign if sign.isprintable() else escaped(sign) for sign in text)
 
 
-def escaped(sign):
+def escaped(sign: str) -> str:
     """A character as its bytes are written. One that stands for a byte that is no UTF-8 is that byte."""
     code = ord(sign)
     if 0xDC80 <= code <= 0xDCFF:
@@ -61,17 +64,17 @@ def escaped(sign):
     return "".join(f"\\x{byte:02x}" for byte in sign.encode("utf-8", "surrogatepass"))
 
 
-def code_of(code):
+def code_of(code: int) -> str:
     return f"{code} {codec.code_name(code)}"
 
 
-def flags_of(flags):
+def flags_of(flags: int) -> str:
     known = [name for name, bit in FLAGS.items() if flags & bit]
     left = flags & ~sum(FLAGS.values())
     return "|".join(known + ([f"0x{left:x}"] if left else [])) or "none"
 
 
-def attributes_of(given):
+def attributes_of(given: dict[str, Any]) -> str:
     words = []
     if "size" in given:
         words.append(f"size {given['size']}")
@@ -84,7 +87,7 @@ def attributes_of(given):
     return ", ".join(words) or "none"
 
 
-def of_handle_bytes(data, most=None):
+def of_handle_bytes(data: bytes, most: int | None = None) -> str:
     """A handle: as text if all of it can be printed, else as a number; cut after so many signs."""
     if all(byte in PLAIN for byte in data):
         return quoted(data, most)
@@ -93,7 +96,7 @@ def of_handle_bytes(data, most=None):
     return f"0x{kept.hex()}{more}"
 
 
-def of(side, data, handle=None):
+def of(side: bytes, data: bytes, handle: str | None = None) -> Packet:
     """What a packet of the client (`b"C"`) or of the server says, whatever bytes it has. `handle` is what the line has
     in place of the request's handle."""
     try:
@@ -102,23 +105,23 @@ def of(side, data, handle=None):
         return raw(data, str(error))
 
 
-def raw(data, trouble):
+def raw(data: bytes, trouble: str) -> Packet:
     number = int.from_bytes(data[5:9], "big") if len(data) >= 9 else None
     return Packet("raw", number, f"{len(data):,} bytes", [("bytes", in_hex(data[:RAW]))], trouble)
 
 
-def in_hex(data):
+def in_hex(data: bytes) -> str:
     return " ".join(f"{byte:02x}" for byte in data) or "none"
 
 
-def fields_of(data):
+def fields_of(data: bytes) -> codec.Fields:
     """The fields of a packet, behind its length."""
     if codec.length(data) != len(data):
         raise codec.Malformed("the packet is not whole")
     return codec.Fields(data[4:])
 
 
-def of_client(data, handle=None):
+def of_client(data: bytes, handle: str | None = None) -> Packet:
     fields = fields_of(data)
     if data[4:5] == bytes([codec.INIT]):
         return of_opening("INIT", fields)
@@ -130,7 +133,7 @@ def of_client(data, handle=None):
     return Packet(request.name, request.number, line, shown)
 
 
-def of_field(name, value, most):
+def of_field(name: str, value: Any, most: int) -> str:
     if name == "flags":
         return flags_of(value)
     if name == "attributes":
@@ -142,7 +145,7 @@ def of_field(name, value, most):
     return quoted(value, most) if isinstance(value, bytes) else f"{value:,}"
 
 
-def in_line(name, value):
+def in_line(name: str, value: Any) -> str:
     """A field in the line of its request. What is left out is in the fields."""
     if name == "attributes":
         return attributes_of(value) if value else ""
@@ -151,7 +154,7 @@ def in_line(name, value):
     return of_field(name, value, SHORT)
 
 
-def of_opening(name, fields):
+def of_opening(name: str, fields: codec.Fields) -> Packet:
     fields.byte()
     number, pairs = fields.uint32(), fields.pairs()
     shown = [(quoted(key, LONG), quoted(value, LONG)) for key, value in pairs[:LISTED]]
@@ -159,17 +162,18 @@ def of_opening(name, fields):
                   [("version", str(number))] + shown + more(pairs))
 
 
-def more(listed):
+def more(listed: Sequence[object]) -> list[tuple[str, str]]:
     return [("more", f"{len(listed) - LISTED:,}")] if len(listed) > LISTED else []
 
 
 # Replies by their types, and those with one field: how it is shown, and read.
 REPLIES = {kind: name for name, (kind, _) in codec.REPLIES.items()}
-OF_ONE_FIELD = {codec.HANDLE: ("handle", codec.Fields.string), codec.DATA: ("data", codec.Fields.string),
-                codec.ATTRS: ("attributes", codec.Fields.attributes), codec.EXTENDED_REPLY: ("data", codec.Fields.rest)}
+OF_ONE_FIELD: dict[int, tuple[str, Callable[[codec.Fields], Any]]] = {
+    codec.HANDLE: ("handle", codec.Fields.string), codec.DATA: ("data", codec.Fields.string),
+    codec.ATTRS: ("attributes", codec.Fields.attributes), codec.EXTENDED_REPLY: ("data", codec.Fields.rest)}
 
 
-def of_server(data):
+def of_server(data: bytes) -> Packet:
     fields = fields_of(data)
     kind = fields.byte()
     if kind == codec.VERSION:
@@ -183,7 +187,7 @@ def of_server(data):
     return Packet(REPLIES[kind], number, line, shown)
 
 
-def of_status(_, fields):
+def of_status(_: int, fields: codec.Fields) -> tuple[str, list[tuple[str, str]]]:
     code = fields.uint32()
     shown = [("code", code_of(code))]
     # some servers leave out both
@@ -192,7 +196,7 @@ def of_status(_, fields):
     return code_of(code), shown
 
 
-def of_names(_, fields):
+def of_names(_: int, fields: codec.Fields) -> tuple[str, list[tuple[str, str]]]:
     items = fields.names()
     first = " ".join(quoted(item[0], SHORT) for item in items[:3])
     shown = [(quoted(item[0], LONG), attributes_of(item[2])) for item in items[:LISTED]]
@@ -200,13 +204,13 @@ def of_names(_, fields):
     return f"{count} {first}{' ...' if len(items) > 3 else ''}", shown + more(items)
 
 
-def of_one_field(kind, fields):
+def of_one_field(kind: int, fields: codec.Fields) -> tuple[str, list[tuple[str, str]]]:
     name, read = OF_ONE_FIELD[kind]
     value = read(fields)
     return of_field(name, value, SHORT), [(name, of_field(name, value, LONG))]
 
 
-def kind_of(side, data):
+def kind_of(side: bytes, data: bytes) -> str:
     """The name of a packet, without reading all of it."""
     name = codec.NAMES.get(data[4]) if len(data) > 4 else None
     if side != b"C":
