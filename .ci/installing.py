@@ -51,7 +51,7 @@ def wrong_texts(program, share):
 def alone(words, room):
     """Runs an installed script as a user would who has set traps: modules of the user that must not run."""
     traps = room / "traps"
-    for name in ("sftp3.py", "usercustomize.py", "argparse.py", "os.py"):
+    for name in ("sftpv3.py", "usercustomize.py", "argparse.py", "os.py"):
         (traps / "packages").mkdir(parents=True, exist_ok=True)
         (traps / "packages" / name).write_text(f"open({str(room / 'sprung')!r}, 'w')\n")
     environment = {"PATH": os.environ.get("PATH", os.defpath), "HOME": str(traps), "LC_ALL": "C.UTF-8",
@@ -242,7 +242,7 @@ def wrong_removal(program, room):
     for words in (["./install", "--prefix", prefix],
                   [prefix / "bin/sftpv3-page", TOP / "examples/wrong-byte.transcript", "-o", room / "removed.html"],
                   # as an installation leaves it that is killed
-                  ["cp", prefix / "bin/sftpv3", prefix / "lib/sftpv3/recording/ways.py.new"],
+                  ["cp", prefix / "bin/sftpv3", prefix / "lib/sftpv3/sftpv3/system/ways.py.new"],
                   ["./install", "--uninstall", "--prefix", prefix]):
         status, printed = called(words, program)
         if status or printed:

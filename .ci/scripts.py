@@ -1,6 +1,7 @@
 """What is checked of scripts without the built program: that they can be read, and what the tools that are installed
 find in them. Each check yields a line for each mistake."""
 import ast
+import os
 import re
 import shutil
 import subprocess
@@ -10,7 +11,10 @@ from collections.abc import Iterator
 from crates import TOP
 
 # What reads scripts in Python for mistakes, not for their layout: the first of these that is installed.
-READERS = (["ruff", "check", "--quiet", "--isolated", "--no-cache", "--select", "E9,F"], ["pyflakes3"], ["pyflakes"])
+READERS = (["ruff", "check", "--quiet", "--no-cache", "--config", "pyproject.toml"], ["pyflakes3"], ["pyflakes"])
+
+# What checks types, with the settings of pyproject.toml, and the layers of the package that are checked.
+TYPES, TYPED = ["mypy", "--no-error-summary", "--cache-dir=/dev/null"], ("codec",)
 
 # Most files, which are not looked into for a first line.
 NO_SCRIPTS = (".antt", ".edit", ".rt")
@@ -28,10 +32,10 @@ def scripts(names: list[str], kind: str) -> list[str]:
     return [it for it, head in heads.items() if is_script.match(head) or kind == "python" and it.endswith(".py")]
 
 
-def said(words: list[str]) -> list[str]:
-    """Returns what a command says of what it refuses."""
-    ran = subprocess.run(words, cwd=TOP, stdin=subprocess.DEVNULL, stdout=subprocess.PIPE, stderr=subprocess.STDOUT,
-                         text=True)
+def said(words: list[str], **settings: str) -> list[str]:
+    """Returns what a command says of what it refuses, with these settings in its environment."""
+    ran = subprocess.run(words, cwd=TOP, env={**os.environ, **settings}, stdin=subprocess.DEVNULL,
+                         stdout=subprocess.PIPE, stderr=subprocess.STDOUT, text=True)
     lines = ran.stdout.splitlines() or [f"{' '.join(words[:2])} ended with status {ran.returncode}"]
     return lines if ran.returncode else []
 
@@ -62,7 +66,7 @@ def wrong_python(names: list[str]) -> Iterator[str]:
 
 
 # What is installed is among these; the oldest version of Python that reads it; and names that only later ones have.
-INSTALLED = ("clients/", "packaging/")
+INSTALLED = ("clients/", "packaging/", "python/sftpv3/", "tests/")
 OLDEST = (3, 9)
 LATER = {"F_SETPIPE_SZ", "F_GETPIPE_SZ", "pairwise", "file_digest", "StrEnum", "UTC"}
 
@@ -95,6 +99,11 @@ def too_new(names: list[str]) -> Iterator[str]:
                 yield f"{name}:{node.lineno}: a union in an annotation, without `from __future__ import annotations`"
 
 
+def wrong_types() -> list[str]:
+    """Finds mistakes of types in the layers that the others stand on."""
+    return said([*TYPES, *(f"python/sftpv3/{it}" for it in TYPED)]) if shutil.which(TYPES[0]) else []
+
+
 def wrong_shell(names: list[str]) -> Iterator[str]:
     found = [*scripts(names, "sh"), *scripts(names, "bash")]
     if found and shutil.which("shellcheck"):
@@ -104,16 +113,23 @@ def wrong_shell(names: list[str]) -> Iterator[str]:
             yield from said(["sh", "-n", name])
 
 
+# Where the tests in .ci/tests find what they try.
+FOUND_IN = (".ci", "python", "cases", "fuzz", "packaging", "tests")
+
+
 def wrong_tests() -> list[str]:
-    """Runs the tests in .ci/tests and clients/test-sftp3, which need neither the program nor the prover."""
-    of_codec = said([sys.executable, "-B", "clients/test-sftp3"])
-    return [*said([sys.executable, "-B", "-m", "unittest", "discover", "-s", ".ci/tests"]),
-            *(f"clients/test-sftp3: {it}" for it in of_codec if not it.startswith("ok: "))]
+    """Runs the tests in .ci/tests and tests/test-sftp3, which need neither the program nor the prover."""
+    of_codec = said([sys.executable, "-B", "tests/test-sftp3"])
+    words = [sys.executable, "-B", "-m", "unittest", "discover", "-s", ".ci/tests"]
+    return [*said(words, PYTHONPATH=":".join(str(TOP / it) for it in FOUND_IN)),
+            *(f"tests/test-sftp3: {it}" for it in of_codec if not it.startswith("ok: "))]
 
 
 def skipped() -> Iterator[str]:
     """Yields a line for each program that is not there, and what is therefore not checked."""
     if not reader():
         yield "neither ruff nor pyflakes is installed: of scripts in Python only the syntax is checked"
+    if not shutil.which(TYPES[0]):
+        yield "mypy is not installed: types are not checked"
     if not shutil.which("shellcheck"):
         yield "shellcheck is not installed: of shell scripts only the syntax is checked"

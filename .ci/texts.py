@@ -138,12 +138,15 @@ def wrong_imports(names):
 
 
 def wrong_version():
-    """Finds a version of the program that does not head CHANGELOG.md."""
+    """Finds a version of the program that does not head CHANGELOG.md, or is not that of the package."""
     number = re.search(r'pub const VERSION: &str = "(.*)";', text("crates/sftp_tool/src/lib.rt"))
     head = re.search(r"(?m)^## ([\d.]+)", text("CHANGELOG.md"))
     if not number or not head or number[1] != head[1]:
         yield (f"CHANGELOG.md: the newest heading, {head and head[1]}, is not the VERSION of the program, "
                f"{number and number[1]}")
+    packaged = re.search(r'(?m)^version = "(.*)"', text("pyproject.toml"))
+    if number and (not packaged or packaged[1] != number[1]):
+        yield f"pyproject.toml: the version is not the VERSION of the program, {number[1]}"
 
 
 def skipped():
@@ -164,8 +167,8 @@ def mistakes():
     """Returns a line for each mistake of a script, a document or an edit, and what was checked, in words."""
     names, crates = files(), Crates()
     pages = [it for it in names if it.endswith(".md")]
-    found = [*scripts.wrong_python(names), *scripts.wrong_shell(names), *scripts.wrong_tests(), *wrong_columns(names),
-             *wrong_links(pages), *wrong_names(pages, names), *wrong_quotes(pages), *unlisted(pages),
+    found = [*scripts.wrong_python(names), *scripts.wrong_types(), *scripts.wrong_shell(names), *scripts.wrong_tests(),
+             *wrong_columns(names), *wrong_links(pages), *wrong_names(pages, names), *wrong_quotes(pages), *unlisted(pages),
              *wrong_imports(names), *wrong_manual(), *wrong_version(),
              *(it for name in crates.lines for it in wrong_edits(crates, name))]
     count = sum(len(scripts.scripts(names, it)) for it in ("python", "sh", "bash"))

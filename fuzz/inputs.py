@@ -2,11 +2,11 @@
 `serve` has to say of a stream, by the documents alone."""
 from __future__ import annotations
 
-from sftp3 import (CLIENT, INIT, Malformed, OPENING, Request, encode, front, id_of, put_records, string, uint32,
-                   uint64, until_fault)
-from sftp3.packets import LONGEST
-from sftp3.trees import (DIRECTORY, Entry, FILE, FURTHER, HIGHEST, LEAST_OF_ALL, LINK, MOST, NO_TIMES, Tree, USUAL, put,
-                         text_of)
+from sftpv3.codec import (CLIENT, INIT, OPENING, Malformed, Request, encode, front, id_of, put_records, string, uint32,
+                          uint64, until_fault)
+from sftpv3.codec.packets import LONGEST
+from sftpv3.codec.trees import (DIRECTORY, FILE, FURTHER, HIGHEST, LEAST_OF_ALL, LINK, MOST, NO_TIMES, USUAL, Entry,
+                                Tree, put, text_of)
 
 NAMES = [b"a", b"b", b"c", b"d", b"l", b"m"]
 STEPS = [*NAMES, b"..", b".", b"", b"\xff\x01"]

@@ -5,7 +5,7 @@ import shutil
 import subprocess
 from pathlib import Path
 
-from probing.program import TOP
+from sftpv3.system.program import TOP
 from trials.processes import executable
 
 

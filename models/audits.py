@@ -1,6 +1,6 @@
 """What `sftpv3 audit` says of a tree file and a transcript (docs/FORMATS.md, docs/PROTOCOL.md)."""
 from replies import Session
-from sftp3 import CLIENT, Malformed, each_record
+from sftpv3.codec import CLIENT, Malformed, each_record
 from trees import tree_of
 
 WINDOW = 1024

@@ -4,7 +4,7 @@ import struct
 import sys
 import textwrap
 
-from sftp3.packets import CLIENT, FLAGS, LAYOUTS, SIDES
+from sftpv3.codec.packets import CLIENT, FLAGS, LAYOUTS, SIDES
 
 
 class Generator:

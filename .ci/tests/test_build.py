@@ -16,7 +16,6 @@ from unittest import mock
 
 sys.dont_write_bytecode = True
 FOLDER = Path(__file__).resolve().parents[1]
-sys.path.insert(0, str(FOLDER))
 
 
 def build():
@@ -86,7 +85,6 @@ class Failing(unittest.TestCase):
 # A stand-in for `rt` whose crates are built on each other in three ways, and count how often a sum is taken.
 RT = """#!/usr/bin/env python3
 import os, sys
-sys.path.insert(0, os.path.dirname(os.path.realpath(__file__)))
 import rtlib
 def main(words):
     rtlib.TOP.stamp()

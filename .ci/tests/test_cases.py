@@ -6,7 +6,6 @@ from pathlib import Path
 
 sys.dont_write_bytecode = True
 TOP = Path(__file__).resolve().parents[2]
-sys.path += [str(TOP / "clients"), str(TOP / "cases")]
 from runner import lines, tables
 from runner.blocks import Unreadable, cases_of
 from runner.expanding import expand

@@ -6,7 +6,6 @@ import unittest
 from pathlib import Path
 
 sys.dont_write_bytecode = True
-sys.path.insert(0, str(Path(__file__).resolve().parents[1]))
 from crates import Crates
 from editing.attempts import function_of
 from editing.blocks import EditsError, read_blocks, read_edit, record_in, write_record, wrong_edits

@@ -1,5 +1,6 @@
-"""Each script of clients/, fuzz/ and bench/ says what it is for when it is asked by `--help`, and does nothing else. It
-says so if that cannot be printed, and a user's interrupt ends it without a traceback, also while it imports."""
+"""Each script of clients/, tests/, fuzz/ and bench/ says what it is for when it is asked by `--help`, and does nothing
+else. It says so if that cannot be printed, and a user's interrupt ends it without a traceback, also while it
+imports."""
 import os
 import re
 import signal
@@ -20,7 +21,7 @@ LONG = 1800
 
 
 def scripts() -> list[Path]:
-    return sorted(it for folder in ("clients", "fuzz", "bench") for it in (TOP / folder).iterdir()
+    return sorted(it for folder in ("clients", "tests", "fuzz", "bench") for it in (TOP / folder).iterdir()
                   if it.is_file() and os.access(it, os.X_OK) and it.read_bytes().startswith(b"#!"))
 
 
@@ -28,7 +29,7 @@ def models() -> list[Path]:
     return [it for it in (TOP / "models").iterdir() if it.is_file() and os.access(it, os.X_OK)]
 
 
-# Runs a script that gets SIGINT when it imports the Nth module behind recording.standard, which every command begins
+# Runs a script that gets SIGINT when it imports the Nth module behind system.standard, which every command begins
 # with; with 0 it prints how many these are.
 STRIKES = """
 import os, runpy, signal, sys
@@ -37,7 +38,7 @@ signal.signal(signal.SIGINT, signal.default_int_handler)
 class Finder:
     found = []
     def find_spec(self, name, path, target=None):
-        self.found += [name] if self.found or name == "recording.signals" else []
+        self.found += [name] if self.found or name == "sftpv3.system.signals" else []
         if len(self.found) - 1 == number > 0:
             os.kill(os.getpid(), signal.SIGINT)
 sys.meta_path.insert(0, Finder())
@@ -50,14 +51,14 @@ finally:
 """
 
 
-# Runs a script of which no module behind recording.standard is there, or finds memory.
+# Runs a script of which no module behind system.standard is there, or finds memory.
 LACKS = """
 import runpy, sys
 script, kind = sys.argv[1:]
 class Finder:
     found = []
     def find_spec(self, name, path, target=None):
-        self.found += [name] if self.found or name == "recording.signals" else []
+        self.found += [name] if self.found or name == "sftpv3.system.signals" else []
         if len(self.found) > 1:
             raise {"MemoryError": MemoryError, "ImportError": ImportError}[kind]
 sys.meta_path.insert(0, Finder())
@@ -83,8 +84,7 @@ runpy.run_path({script!r}, run_name="__main__")
 # Runs a script that gets SIGTERM when it has done its work, just before it holds signals off.
 ENDS_WORK = """
 import os, runpy, signal, sys
-sys.path.insert(0, "clients")
-from recording import ending
+from sftpv3.system import ending
 hold_off = ending.hold_off
 def strike():
     ending.hold_off = hold_off
@@ -100,8 +100,7 @@ runpy.run_path({script!r}, run_name="__main__")
 # Runs a script in which something happens that it does not foresee.
 FAILS = """
 import runpy, sys
-sys.path.insert(0, "clients")
-from recording import ending
+from sftpv3.system import ending
 def fail():
     raise ValueError("unforeseen")
 ending.end_in_order = fail
@@ -112,7 +111,6 @@ runpy.run_path({script!r}, run_name="__main__")
 # A test script, and `.ci/pages`, that a user interrupts.
 QUIET = """
 import sys
-sys.path.insert(0, "clients")
 import trials.steps
 raise KeyboardInterrupt
 """
@@ -122,7 +120,6 @@ import os, runpy, signal, subprocess, sys
 signal.signal(signal.SIGINT, signal.default_int_handler)
 subprocess.run = lambda *_, **__: os.kill(os.getpid(), signal.SIGINT)
 sys.argv = [".ci/pages"]
-sys.path.insert(0, ".ci")
 runpy.run_path(".ci/pages", run_name="__main__")
 """
 
@@ -221,7 +218,7 @@ def interrupted(script: Path) -> str:
     """Returns what is wrong with a script that is interrupted at its first, its last and an import between them."""
     status, said = run_code(STRIKES, 0, script)
     if not said.isdecimal() or int(said) < 2:
-        return f"it imports {said!r} behind recording.standard, status {status}"
+        return f"it imports {said!r} behind system.standard, status {status}"
     for number in {1, (int(said) + 1) // 2, int(said)}:
         status, found = run_code(STRIKES, number, script)
         if status not in (-signal.SIGINT, 128 + signal.SIGINT) or found:
@@ -274,7 +271,7 @@ class Helps(unittest.TestCase):
 
     def test_settings_of_python_change_no_command(self):
         with tempfile.TemporaryDirectory() as room:
-            for name in ("argparse", "os", "recording", "subprocess", "tempfile"):
+            for name in ("argparse", "os", "sftpv3", "subprocess", "tempfile"):
                 (Path(room) / f"{name}.py").write_text(SPRUNG)
             settings = {"PYTHONOPTIMIZE": "2", "PYTHONPATH": room}
             self.no_mistakes(lambda it: wrong(it, **settings), commands() + servers())

@@ -7,7 +7,6 @@ from pathlib import Path
 
 TOP = Path(__file__).resolve().parents[2]
 sys.dont_write_bytecode = True
-sys.path[:0] = [str(TOP / "fuzz"), str(TOP / "clients")]
 
 
 def loaded():

@@ -10,8 +10,6 @@ from pathlib import Path
 from unittest import mock
 
 sys.dont_write_bytecode = True
-sys.path.insert(0, str(Path(__file__).resolve().parents[1]))
-sys.path.insert(0, str(Path(__file__).resolve().parents[2] / "packaging"))
 import mdoc
 import scripts
 import texts
@@ -68,13 +66,15 @@ class Scripts(unittest.TestCase):
     def test_says_what_is_not_there(self):
         with mock.patch.object(shutil, "which", lambda _: None):
             self.assertEqual([it.partition(":")[0] for it in scripts.skipped()],
-                             ["neither ruff nor pyflakes is installed", "shellcheck is not installed"])
+                             ["neither ruff nor pyflakes is installed", "mypy is not installed",
+                              "shellcheck is not installed"])
             self.assertEqual(list(scripts.wrong_python(self.script("#!/usr/bin/env python3\nimport os\n"))), [])
 
 
 class Version(unittest.TestCase):
-    def wrong(self, changes: str) -> list[str]:
-        files = {"CHANGELOG.md": changes, "crates/sftp_tool/src/lib.rt": SOURCE}
+    def wrong(self, changes: str, packaged: str = "0.2.0") -> list[str]:
+        files = {"CHANGELOG.md": changes, "crates/sftp_tool/src/lib.rt": SOURCE,
+                 "pyproject.toml": f'[project]\nversion = "{packaged}"\n'}
         with mock.patch.object(texts, "text", files.get):
             return list(texts.wrong_version())
 
@@ -85,6 +85,7 @@ class Version(unittest.TestCase):
     def test_is_told_if_it_does_not(self):
         for changes in "## 0.3.0\n\n## 0.2.0\n", "## 0.2\n", "# Changes\n":
             self.assertRegex(self.wrong(changes)[0], r"^CHANGELOG\.md: .*0\.2\.0$")
+        self.assertRegex(self.wrong("## 0.2.0\n", "0.1.0")[0], r"^pyproject\.toml: .*0\.2\.0$")
 
 
 class Dates(unittest.TestCase):

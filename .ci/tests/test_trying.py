@@ -11,7 +11,6 @@ from pathlib import Path
 from unittest import mock
 
 sys.dont_write_bytecode = True
-sys.path.insert(0, str(Path(__file__).resolve().parents[1]))
 from crates import Crates
 from editing import trying
 from editing.blocks import record_in

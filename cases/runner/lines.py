@@ -5,10 +5,10 @@ from __future__ import annotations
 import re
 from collections.abc import Callable
 
-from sftp3 import transcripts
-from sftp3.fields import string, uint32, uint64
-from sftp3.packets import CLIENT, EXTENSIONS, FLAGS, KINDS_OF, LAYOUTS, SERVER, SIDES, WRITERS, packet
-from sftp3.trees import OPENING, OPENING_WIDE, OPENING_WITH_LIMITS
+from sftpv3.codec import transcripts
+from sftpv3.codec.fields import string, uint32, uint64
+from sftpv3.codec.packets import CLIENT, EXTENSIONS, FLAGS, KINDS_OF, LAYOUTS, SERVER, SIDES, WRITERS, packet
+from sftpv3.codec.trees import OPENING, OPENING_WIDE, OPENING_WITH_LIMITS
 
 # What a session begins with.
 GREETINGS = ["C INIT 3", 'S VERSION 3 "posix-rename@openssh.com"="1" "hardlink@openssh.com"="1" '

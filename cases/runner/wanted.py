@@ -4,10 +4,10 @@ from __future__ import annotations
 from collections.abc import Iterator
 from dataclasses import dataclass
 
-from sftp3.fields import Malformed
-from sftp3.packets import SERVER, read
 from runner.lines import cut
 from runner.runs import Came
+from sftpv3.codec.fields import Malformed
+from sftpv3.codec.packets import SERVER, read
 
 # How many bytes are shown at most.
 SHOWN = 2000

@@ -15,7 +15,7 @@ from attacking.ground import SECONDS, attack, words_of
 from attacking.recorders import daemon
 from attacking.saving import TOP
 from attacking.sessions import Session
-from probing.program import program
+from sftpv3.system.program import program
 from trials.other_servers import SFTP_SERVER
 from trials.sshd import Sshd
 

@@ -10,13 +10,12 @@ import subprocess
 import tempfile
 import time
 from contextlib import contextmanager, suppress
-from functools import cache
-from importlib import machinery, util
+from importlib import import_module
 from pathlib import Path
 
-from probing.program import program
-from recording import ending, temporary
-from sftp3 import request
+from sftpv3.codec import request
+from sftpv3.system import ending, temporary
+from sftpv3.system.program import program
 
 SECONDS = 120
 CLIENTS = os.path.join(os.path.dirname(os.path.realpath(__file__)), "../../clients")
@@ -73,13 +72,9 @@ def others_may_look():
     return False
 
 
-@cache
 def script(name):
-    """A script of clients/ as a module."""
-    loader = machinery.SourceFileLoader(f"script_{name}", os.path.join(CLIENTS, name))
-    found = util.module_from_spec(util.spec_from_loader(loader.name, loader))
-    loader.exec_module(found)
-    return found
+    """The module of a command."""
+    return import_module(f"sftpv3.commands.{name}")
 
 
 def environment(**more):

@@ -5,17 +5,15 @@ import shutil
 import socket
 import stat
 import subprocess
-import sys
 import tempfile
 from contextlib import contextmanager, suppress
 from pathlib import Path
 from unittest import mock
 
-from attacking.ground import CLIENTS, SECONDS, attack, environment, wrong_status
+from attacking.ground import SECONDS, attack, environment, wrong_status
 from attacking.servers import HELLO, built
 
-sys.path.append(os.path.join(CLIENTS, "servers"))
-import rooted  # noqa: E402 (its folder is not searched before)
+from sftpv3.servers import rooted  # noqa: E402 (its folder is not searched before)
 
 # A server that answers INIT, and says on standard error what of the machine it reaches.
 SERVER = r"""

@@ -8,7 +8,7 @@ from pathlib import Path
 from attacking.ground import CLIENTS, SECONDS, attack, environment, wrong_status
 from attacking.saving import HELLO, OPENED, write, writing
 from attacking.scripts import DIFFERING, ordinary
-from probing.program import program
+from sftpv3.system.program import program
 from trials.processes import wait_until
 
 SAID = b"a symbolic link of another user"

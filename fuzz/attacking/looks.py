@@ -15,12 +15,12 @@ from unittest import mock
 from attacking.ground import CLIENTS, attack, script
 from attacking.saving import HELLO
 from attacking.sessions import MEBI
-from probing.program import program
-from recording import mounted, naming
-from serving import saving
-from snapshot.looking import Trouble, View
+from broken import hostile
+from sftpv3.serve import saving
+from sftpv3.system import mounted, naming
+from sftpv3.system.program import program
+from sftpv3.tree.looking import Trouble, View
 from trials.processes import limited
-from walk_trials import hostile
 
 LOOKS = ("lstat", "stat", "readlink")
 # What else a script does by names.
@@ -172,7 +172,7 @@ def a_folder_of_a_user_is_a_link(field):
                     yield f"{place} {words}: {done.stderr[-200:]!r}"
 
 
-HOSTILE = [sys.executable, os.path.join(CLIENTS, "walk_trials", "hostile.py")]
+HOSTILE = [sys.executable, os.path.join(CLIENTS, "../tests/stand-in"), "hostile"]
 LOOSE = [sys.executable, os.path.join(os.path.dirname(os.path.realpath(__file__)), "loose_server.py")]
 PROBE = ["--seeds", "1", "--requests", "20", "--skip", "crowds", "--budget", "0", "--jobs", "1", "--look-first", "."]
 # The most memory of a script, and how many seconds it has to find out that a path is none.

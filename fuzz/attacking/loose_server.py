@@ -7,14 +7,12 @@ With KIND `deaf` it does so to SETSTAT, too; with `later` as well, but not befor
 file LOG gets a line for each request that makes or changes something at a path: its name, the path in hexadecimal, and
 the permissions that it asks for.
 """
-import os
 import subprocess
 import sys
 
 sys.dont_write_bytecode = True
-sys.path.insert(0, os.path.join(os.path.dirname(os.path.realpath(__file__)), "../../clients"))
 
-import sftp3  # noqa: E402 (the folder of it is not searched before)
+from sftpv3 import codec
 
 
 def is_first(log):
@@ -24,7 +22,7 @@ def is_first(log):
 
 
 def loosened(packet, log, kind):
-    asked = sftp3.decode(packet)
+    asked = codec.decode(packet)
     if asked.name not in ("MKDIR", "SETSTAT", "OPEN", "SYMLINK"):
         return packet
     is_kept = kind == "later" and is_first(log)
@@ -32,7 +30,7 @@ def loosened(packet, log, kind):
     with open(log, "a", encoding="ascii") as file:
         file.write(f"{asked.name} {asked.fields[0].hex()} {wanted:o}\n")
     if asked.name == "MKDIR" and not is_kept or asked.name == "SETSTAT" and kind != "loose":
-        return sftp3.request(asked.number, asked.name, asked.fields[0], {})
+        return codec.request(asked.number, asked.name, asked.fields[0], {})
     return packet
 
 
@@ -44,7 +42,7 @@ def main():
             if len(head) < 4:
                 break
             packet = head + sys.stdin.buffer.read(int.from_bytes(head, "big"))
-            server.stdin.write(packet if packet[4] == sftp3.INIT else loosened(packet, log, kind))
+            server.stdin.write(packet if packet[4] == codec.INIT else loosened(packet, log, kind))
             server.stdin.flush()
         server.stdin.close()
 

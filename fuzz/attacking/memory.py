@@ -8,7 +8,7 @@ import tarfile
 from attacking import sessions
 from attacking.ground import attack
 from attacking.sessions import MEBI, run
-from sftp3.trees import FILE, Entry, Tree, put
+from sftpv3.codec.trees import FILE, Entry, Tree, put
 
 LIMIT = 256 * MEBI
 

@@ -22,10 +22,10 @@ from attacking.nights import VICTIM, Nights, record_name, wrong
 from attacking.saving import HELLO, OPENED
 from attacking.scripts import ordinary
 from attacking.servers import SERVER, built, session
-from nights import night
-from probing import options, reports
-from recording import mounted as mounts, naming, ways
-from serving import saving
+from sftpv3.nights import night
+from sftpv3.probe import options, reports
+from sftpv3.serve import saving
+from sftpv3.system import mounted as mounts, naming, ways
 
 # After how many seconds a file system that does not answer is taken away, so that the attacks go on.
 HELD = 60

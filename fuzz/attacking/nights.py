@@ -13,9 +13,9 @@ from attacking.ground import SECONDS, attack, environment
 from attacking.recorders import KEEPER
 from attacking.saving import TOP
 from attacking.sessions import HELLO, MEBI
-from nights import records
-from recording import mounted
-from sftp3 import CLIENT, CREAT, SERVER, WRITE, Packet, encode, put_records, request, status, version
+from sftpv3.codec import CLIENT, CREAT, SERVER, WRITE, Packet, encode, put_records, request, status, version
+from sftpv3.nights import records
+from sftpv3.system import mounted
 from trials.disks import fill, small_disk
 
 # A user who is there on every machine, and whom another one attacks.

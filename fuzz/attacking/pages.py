@@ -8,13 +8,13 @@ import tarfile
 from pathlib import Path
 from xml.etree import ElementTree
 
-import sftp3
 from attacking.ground import SECONDS, attack, environment, identity, wrong_status
 from attacking.memory import archive_of
 from attacking.recorders import VICTIM
 from attacking.saving import OPENED, TOP
-from sftp3 import BEGUN, CLIENT, SERVER, init, put_records, request
-from sftp3.trees import DIRECTORY, Entry, Tree, put
+from sftpv3 import codec
+from sftpv3.codec import BEGUN, CLIENT, SERVER, init, put_records, request
+from sftpv3.codec.trees import DIRECTORY, Entry, Tree, put
 
 HERE = os.path.dirname(os.path.realpath(__file__))
 ONCE = ["--jobs", "1", "--seeds", "1", "--requests", "10", "--skip", "transfers", "--budget", "2", "--timeout", "3",
@@ -188,7 +188,7 @@ def a_name_runs_in_a_makefile(field):
             os.remove(field.path(f"records/{name}.transcript"))
 
 
-SESSION = [*BEGUN, (CLIENT, request(1, "STAT", b"/\x01\xff\"\\\n")), (SERVER, sftp3.status(1, 0, b"\x1b[2J\xff"))]
+SESSION = [*BEGUN, (CLIENT, request(1, "STAT", b"/\x01\xff\"\\\n")), (SERVER, codec.status(1, 0, b"\x1b[2J\xff"))]
 NAMES = [b"\x01", b'"', b"\\", b"\n", b"\x7f", b"\xc3\xa9", b"\xed\xa0\x80", b"\xff", b"\xc0\xaf"]
 
 

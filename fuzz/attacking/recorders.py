@@ -15,10 +15,11 @@ from unittest import mock
 
 from attacking import hostile
 from attacking.ground import CLIENTS, SECONDS, attack, environment, identity, start_as, stop, words_of, wrong_status
-from nights.records import Spool
-from probing.program import program
-from recording import auditing, naming
-from sftp3 import init, request
+from sftpv3.codec import init, request
+from sftpv3.nights.records import Spool
+from sftpv3.recorder import auditing
+from sftpv3.system import naming
+from sftpv3.system.program import program
 from sshd_trials import page
 from trials.processes import children_of, wait_until
 

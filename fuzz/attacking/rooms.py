@@ -4,21 +4,18 @@ import os
 import re
 import struct
 import subprocess
-import sys
 import tempfile
 from contextlib import suppress
 
 from attacking.ground import CLIENTS, SECONDS, attack, environment
 from attacking.looks import CALLS, MOST, acting_before
 from attacking.scripts import DIFFERING, ordinary
-from probing import files
-from probing.program import TOP, program
-from recording import ways
-from sftp3 import init, trees
-from sftp3.trees import FILE, Entry, Tree
+from sftpv3.codec import init, trees
+from sftpv3.codec.trees import FILE, Entry, Tree
+from sftpv3.system import files, ways
+from sftpv3.system.program import TOP, program
 
-sys.path.append(os.path.join(CLIENTS, "servers"))
-import folders  # noqa: E402 (its folder is not searched before)
+from sftpv3.servers import folders  # noqa: E402 (its folder is not searched before)
 
 
 class Scene:

@@ -9,9 +9,9 @@ from contextlib import suppress
 from pathlib import Path
 
 from attacking.ground import attack, wrong_status
-from probing.program import TOP, program
-from sftp3 import CLIENT, SERVER, init, put_records, version
-from sftp3.trees import FILE, Entry, Tree, put
+from sftpv3.codec import CLIENT, SERVER, init, put_records, version
+from sftpv3.codec.trees import FILE, Entry, Tree, put
+from sftpv3.system.program import TOP, program
 
 HELLO = init()
 OPENED = put_records([(CLIENT, HELLO), (SERVER, version(3, []))])

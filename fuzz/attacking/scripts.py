@@ -11,8 +11,8 @@ from pathlib import Path
 
 from attacking.ground import CLIENTS, SECONDS, attack, environment
 from attacking.saving import HELLO, OPENED
-from probing.program import TOP, program
-from sftp3 import BEGUN, CLIENT, SERVER, init, put_records, request, status
+from sftpv3.codec import BEGUN, CLIENT, SERVER, init, put_records, request, status
+from sftpv3.system.program import TOP, program
 from trials.processes import limited
 
 COMMANDS = ("nightly", "page", "probe", "record", "recordd", "serve", "tree", "walk")

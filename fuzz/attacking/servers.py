@@ -7,8 +7,8 @@ import time
 from contextlib import suppress
 
 from attacking.ground import SECONDS, attack, environment, words_of, wrong_status
-from probing.program import program
-from sftp3 import init
+from sftpv3.codec import init
+from sftpv3.system.program import program
 from trials.processes import wait_until
 
 HELLO = init()

@@ -2,10 +2,10 @@
 a few SFTP requests over `ssh -s`, for an SFTP-only user."""
 import subprocess
 
-from probing.program import program
-from sftp3 import (CLIENT, CREAT, DATA, HANDLE, NAME, Packet, READ, Reply, Request, SERVER, WRITE, encode, init,
-                   names_in, put_records, request, status, string_in, uint32, uint64, version)
-from sftp3.trees import Entry, FILE, Tree, USUAL, put
+from sftpv3.codec import (CLIENT, CREAT, DATA, HANDLE, NAME, READ, SERVER, WRITE, Packet, Reply, Request, encode, init,
+                          names_in, put_records, request, status, string_in, uint32, uint64, version)
+from sftpv3.codec.trees import FILE, USUAL, Entry, Tree, put
+from sftpv3.system.program import program
 from trials.processes import used_by
 from trials.sessions import Client
 

@@ -7,13 +7,13 @@ from contextlib import suppress
 
 from attacking.ground import Attack, attack, script
 from attacking.looks import CALLS, MOST, acting_before, made
-from nights.night import Night
-from nights.records import Failed
-from probing import files
-from recording import ending, keeping, naming, notices
-from serving import saving
-from snapshot.looking import Trouble
-from snapshot.writing import Owner
+from sftpv3.nights.night import Night
+from sftpv3.nights.records import Failed
+from sftpv3.serve import saving
+from sftpv3.spool import keeping
+from sftpv3.system import ending, files, naming, notices
+from sftpv3.tree.looking import Trouble
+from sftpv3.tree.writing import Owner
 
 REFUSED = (OSError, Trouble, Failed, naming.NotMade, saving.Unfit, keeping.Unfit)
 

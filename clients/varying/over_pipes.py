@@ -1,0 +1,1 @@
+../running/over_pipes.py

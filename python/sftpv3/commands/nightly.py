@@ -1,0 +1,117 @@
+"""Audits the sessions of a user that were recorded since the last run, and checks whether they explain the folder.
+
+    clients/nightly [OPTIONS] USER FOLDER ... [-- OPTION-OF-AUDIT ...]
+
+The first run makes the tree of the folders with sftpv3-tree. Each later run audits the sessions that have ended since,
+in the order of their starts, each from the tree in which the one before it ended, and then compares the last tree with
+the folders as they are. Each record goes into the folder accepted, refused (with the verdict beside it) or unjudged of
+the user's state. A session is unjudged if its audit takes more than --memory or --audit-seconds, or if there is no tree
+to start from: after such a session or a refused one, and before the first run. The tree is then made anew. While a
+session runs, neither it nor the sessions after it are audited, and nothing is compared; nor is anything once
+--night-seconds are over. Sessions that ran at the same time are audited one after the other, and named (`beside`).
+
+A copy of each record that nobody else can change is audited and kept. A file is a record only if it is as a recorder
+makes it: a regular file of the user's, with one name, that nobody else may use. A folder with the user's name in
+--records is taken only if the spool's owner or root made it, and no other can write to the spool.
+
+Options of `sftpv3 audit` follow `--`. They are added to `--profile posix-user` (`posix` if the program has no other),
+`--cut` and `--new-owner posix`, as far as the program has these; a profile takes the place of all three.
+
+The exit status is
+  0  all sessions that have ended are accepted, and the folders are as they left them
+  1  one is refused, or it or a part of it cannot be judged, a file of the user is not taken for a record, something
+     else changed the folders, or nothing could be compared
+  2  bad usage
+  3  a file cannot be read or written, or the program or sftpv3-tree failed: nothing more is judged
+If SIGHUP, SIGINT or SIGTERM ended the run, it is 128 and the number of the signal; what is left waits for the next run.
+"""
+import os
+import sys
+
+from sftpv3.system.standard import begin
+
+begin()
+import argparse
+import pwd
+
+from sftpv3.nights.night import Night, Unsaid, WrongOption
+from sftpv3.nights.records import Failed
+from sftpv3.system import ending, program
+from sftpv3.system.parsers import Parser, number_from
+from sftpv3.system.standard import end
+
+# How long an audit may take, to read the folders, and all audits of a run, in seconds. With the unit's 6 h the last
+# audit and look come to their end.
+AUDIT_SECONDS, LOOK_SECONDS, NIGHT_SECONDS = 600, 3600, 14400
+
+
+# No night has as many seconds, and no process is given as much memory: the system takes no bounds of much more.
+MOST_TIME, MOST_MEMORY = 10**9, 1 << 60
+
+
+def options():
+    about = __doc__.split("\n\n", 2)
+    parser = Parser(prog=os.path.basename(program.called("nightly")),
+                    usage="%(prog)s [OPTIONS] USER FOLDER ... [-- OPTION-OF-AUDIT ...]",
+                    description=about[0] + "\n\n" + about[2], formatter_class=argparse.RawDescriptionHelpFormatter)
+    add = parser.add_argument
+    add("--records", metavar="DIR", default="/var/spool/sftp",
+        help="where the recorder writes, or the spool of sftpv3-recordd (/var/spool/sftp)")
+    add("--state", metavar="DIR", default="/var/lib/sftpv3",
+        help="where the tree and the audited records of each user are kept (/var/lib/sftpv3)")
+    add("--memory", metavar="BYTES", type=number_from(1, MOST_MEMORY), default=program.MEMORY,
+        help=f"the most memory of an audit ({program.MEMORY}); the tree file of the folders may have a third of it")
+    add("--audit-seconds", metavar="N", type=number_from(1, MOST_TIME, float), default=AUDIT_SECONDS,
+        help=f"the most time of an audit ({AUDIT_SECONDS})")
+    add("--look-seconds", metavar="N", type=number_from(1, MOST_TIME, float), default=LOOK_SECONDS,
+        help=f"the most time in which the folders are read ({LOOK_SECONDS})")
+    add("--night-seconds", metavar="N", type=number_from(0, MOST_TIME, float), default=NIGHT_SECONDS,
+        help=f"after how much time no more audit is begun, and what is left waits for the next run ({NIGHT_SECONDS})")
+    add("--longest", metavar="HOURS", type=number_from(0, MOST_TIME, float), default=0,
+        help="for how long sessions that run may keep the folders from being compared, before the status is 1 (0)")
+    add("--chroot", action="store_true", help="as of sftpv3-tree")
+    add("--without-mounts", action="store_true", help="as of sftpv3-tree")
+    add("--home", metavar="PLACE", help="as of sftpv3-tree")
+    add("--group", metavar="GROUP", help="as of sftpv3-tree")
+    add("user", metavar="USER", help="whose sessions they are")
+    add("folders", metavar="FOLDER", nargs="+", help="the folders that this user's clients see")
+    words = sys.argv[1:]
+    place = words.index("--") if "--" in words else len(words)
+    given = parser.parse_args(words[:place])
+    given.audit = words[place + 1:]
+    try:
+        given.number = pwd.getpwnam(given.user).pw_uid
+    except KeyError:
+        parser.error(f"there is no user {ascii(given.user)[1:-1]}")
+    if "/" in given.user:
+        parser.error("a user's name has no slash")
+    return given
+
+
+def tell(text):
+    program.complain("nightly", text, 3)
+
+
+def main():
+    for stream in (sys.stdout, sys.stderr):
+        stream.reconfigure(errors="backslashreplace")
+    given = options()
+    os.umask(0o077)
+    try:
+        with ending.in_order():
+            return Night(given).run()
+    except ending.Signalled as signal:
+        tell(f"{signal}; what is left waits for the next run")
+        return signal.status
+    except Unsaid:
+        return 3
+    except WrongOption as error:
+        tell(f"behind --: {error}")
+        return 2
+    except (Failed, program.NotBuilt, OSError) as error:
+        tell(program.told(error))
+        return 3
+
+
+def run():
+    sys.exit(end(main, tell))

@@ -1,0 +1,107 @@
+"""Servers that keep to the draft, and are unusual: none is blamed, or a line says by which option it is not."""
+import os
+import re
+
+from probe_trials.runs import probe, side_by_side
+from sftpv3.system.program import TOP, program
+from trials.other_servers import SFTP_SERVER, has_openssh
+from trials.probes import SERVE, faulty_before, misbehaving, serve, stand_in
+
+# Servers of broken/unusual.py that are accepted as they are.
+ACCEPTED = ["many-extensions", "one-name", "single-bytes", "noisy", "failed-at-end", "late"]
+
+# Those that need words, which a line tells; and more options of `serve`.
+TOLD = [
+    ("ends-at-long-packets", ["--limits", "packet=34000"], []),
+    ("hangs-at-long-packets", ["--limits", "packet=34000"], []),
+    ("refuses-long-packets", ["--limits", "packet=34000"], []),
+    ("few-handles", ["--limits", "handles=20"], []),
+    ("days-of-access", ["--without", "access-times"], ["--times"]),
+    ("no-times", ["--skip", "times"], ["--times"]),
+    ("texts-alone", ["--skip", "not-utf-8"], []),
+    ("one-owner", ["--skip", "owner"], []),
+    ("few-owners", ["--skip", "large-owner"], []),
+    ("bare-listings", ["--without", "listed-attributes"], []),
+    ("no-links", ["--skip", "HARDLINK,READLINK,SYMLINK"], []),
+]
+
+
+def unusual(kind, *options):
+    return stand_in("unusual", kind, serve(*options))
+
+
+def try_accepted(steps, _):
+    def accept(kind):
+        status, said, _ = probe("--seeds", "1-5", "--", *unusual(kind))
+        steps.check(f"{kind}: accepted", status == 0 and said.startswith("accepted: 5 "), said)
+    side_by_side(accept, [(kind,) for kind in ACCEPTED])
+
+
+def try_kept(steps, folder):
+    """A server that puts down its files some seconds after its input has ended keeps them."""
+    live = "{folder}/live"
+    server = stand_in("unusual", "late", [program(), "serve", "--tree", live, "--save", live])
+    status, said, _ = probe("--seeds", "1-2", "--tree", os.path.join(folder, "usual.tree"), "--reset",
+                            f"cp {folder}/usual.tree {live}", "--", *server)
+    steps.check("late, with --save: accepted, and what lasts was checked", status == 0 and
+                said.startswith("accepted: 2 ") and "only" not in said, said)
+
+
+def try_told(steps, folder):
+    """What some servers do not have: the probe tells by which words it is left out."""
+    def tell(kind, words, more):
+        few = ["--seeds", "1-5", "--timeout", "3", "--budget", "10", "--keep", os.path.join(folder, kind)]
+        status, said, _ = probe(*few, "--", *unusual(kind, *more))
+        advised = re.findall("^probe: .* play again with (--(?:limits|without|skip) .*)$", said, re.MULTILINE)
+        steps.check(f"{kind}: differences, and {' '.join(words)} is advised", status == 1 and
+                    advised == [" ".join(words)], said)
+        status, said, _ = probe(*few, *words, "--", *unusual(kind, *more))
+        steps.check(f"{kind}, {' '.join(words)}: accepted", status == 0, said)
+    side_by_side(tell, TOLD)
+
+
+def try_one_at_a_time(steps, folder):
+    """A server of which one runs at a time, as by a lock or a port: those that run side by side are its user's."""
+    lock = os.path.join(folder, "lock")
+    server = ["sh", "-c", 'exec flock -n "$0" "$@"', lock, *SERVE]
+    few = ["--seeds", "1-8", "--budget", "0", "--keep", os.path.join(folder, "locked")]
+    status, said, _ = probe(*few, "--jobs", "3", "--", *server)
+    # it depends on which of them is the first
+    steps.check("one at a time: status 1 or 3, and --jobs 1 is advised", status in (1, 3) and
+                "play again with --jobs 1\n" in said, said)
+    status, said, _ = probe(*few, "--jobs", "1", "--", *server)
+    steps.check("one at a time, --jobs 1: accepted", status == 0, said)
+    status, said, _ = probe(*few, "--jobs", "1", "--", *misbehaving("starts-at-times"),
+                            env=dict(os.environ, MISBEHAVING_COUNT=f"{lock}.count"))
+    steps.check("one that does not start at times: --jobs 1, which is given, is not advised", status == 1 and
+                "--jobs" not in said, said)
+    live = "{folder}/live"
+    status, said, _ = probe(*few, "--also", "two-clients", "--tree", f"{folder}/usual.tree", "--reset",
+                            f"cp {folder}/usual.tree {live}", "--", *server[:4], program(), "serve", "--tree", live,
+                            "--save", live)
+    steps.check("one at a time, two clients: status 3, and which server did not start", status == 3 and
+                "probe: the second of two servers: no VERSION came: " in said, said)
+
+
+def try_umask(steps, folder):
+    """Where files are their group's, too, the option is named."""
+    if not has_openssh(steps, "a umask of a group", needs_root=True):
+        return
+    server = [os.path.join(TOP, "clients", "servers", "any"), "{tree}", SFTP_SERVER, "-u", "007"]
+    status, said, _ = probe("--seeds", "1", "--profile", "posix", "--skip", "crowds,transfers", "--budget", "0",
+                            "--keep", os.path.join(folder, "umask"), "--", *server)
+    steps.check("a server with the umask 007: a difference, and --umask 007 accepts it", status == 1 and
+                "   accepted with: --umask 007\n" in said, said)
+
+
+def try_not_told(steps, folder):
+    """What has another reason is not excused, nor advised."""
+    words = ["--seeds", "1-4", "--budget", "0", "--keep", os.path.join(folder, "not-told")]
+    for fault, more in (("write-lacks-last-byte", []), ("times-lost", ["--without", "access-times"])):
+        status, said, _ = probe(*words, *more, "--", *faulty_before(fault, serve("--times")))
+        steps.check(f"{fault}, {more}: found, and nothing is advised", status == 1 and "play again" not in said, said)
+    status, said, _ = probe("--seeds", "1-4", "--limits", "packet=34000,handles=5", "--", *SERVE)
+    steps.check("sftpv3 serve with little room is accepted", status == 0, said)
+
+
+TRIALS = (try_accepted, try_kept, try_told, try_one_at_a_time, try_umask, try_not_told)
