@@ -153,6 +153,18 @@ class Callers(unittest.TestCase):
                 with self.subTest(name, status=status):
                     self.assertEqual(self.status_of(name, status), wanted)
 
+    def test_what_is_not_proved_is_not_installed(self):
+        with tempfile.TemporaryDirectory() as folder:
+            program, to = Path(folder, "sftpv3-not-proved"), Path(folder, "to")
+            program.write_text("#!/bin/sh\necho 'sftpv3 0.2.0 (commit 1234, rattle-kit-13f) (not proved)'\n")
+            program.chmod(0o755)
+            deb = [[FOLDER.parent / "packaging/deb", to]] if shutil.which("dpkg-deb") else []
+            for words in ([FOLDER.parent / "install", "--prefix", to], *deb):
+                ran = subprocess.run(words, env={**os.environ, "SFTPV3": str(program)}, stdin=subprocess.DEVNULL,
+                                     stdout=subprocess.DEVNULL, stderr=subprocess.PIPE, text=True, check=False)
+                self.assertEqual((ran.returncode, ran.stderr, to.exists()), (
+                    3, f"install: {program} is not proved: ./sftpv3 --proved proves and builds out/sftpv3\n", False))
+
     def test_a_source_of_an_old_date_is_built(self):
         with tempfile.TemporaryDirectory() as folder:
             top = Path(folder)
