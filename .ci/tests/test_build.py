@@ -183,7 +183,7 @@ class Callers(unittest.TestCase):
                     os.utime(top / "new.rt", (1, 1))
                     os.replace(top / "new.rt", source)
                     os.utime(source.parent, (1, 1))
-                ran = subprocess.run([top / "sftpv3", "--proved"], stdin=subprocess.DEVNULL, stderr=subprocess.PIPE, text=True,
-                                     check=False)
+                ran = subprocess.run([top / "sftpv3", "--proved"], stdin=subprocess.DEVNULL, stderr=subprocess.PIPE,
+                                     text=True, check=False)
                 self.assertEqual(("/.ci/build\n" in ran.stderr, ran.stderr.endswith("/out/sftpv3\n")),
                                  (is_changed, True), ran.stderr)

@@ -1,4 +1,4 @@
-"""`bench/gate`: what it prints of costs, by hand; and what it sees of processes that use a processor for a known time."""
+"""`bench/gate`: what it prints of costs, by hand; and what it sees of processes that use a known time of a processor."""
 import os
 import subprocess
 import sys
@@ -79,22 +79,24 @@ class Printed(unittest.TestCase):
             rt.write_text(RT.format(python=sys.executable, status=status))
             rt.chmod(0o755)
             example.mkdir(parents=True)
-            ran = subprocess.run([TOP / "bench/gate", *words], stdin=subprocess.DEVNULL, stdout=subprocess.PIPE, text=True,
-                                 stderr=subprocess.STDOUT, check=False,
+            ran = subprocess.run([TOP / "bench/gate", *words], stdin=subprocess.DEVNULL, stdout=subprocess.PIPE,
+                                 stderr=subprocess.STDOUT, text=True, check=False,
                                  env={**os.environ, "PATH": f"{rt.parent}:{os.environ['PATH']}", "BURN": BURN})
         return ran.returncode, ran.stdout
 
     def test_a_command_between_two_units(self):
-        status, said = self.run_with(0, "--", "sh", "-c", burn(1.5, "build", "--crate-name", "one") + "; echo done; exit 4")
+        proof = burn(1.5, "build", "--crate-name", "one")
+        status, said = self.run_with(0, "--", "sh", "-c", f"{proof}; echo done; exit 4")
         lines = said.splitlines()
         self.assertEqual((status, lines[0]), (4, "done"), said)
-        self.assertRegex(said, r"\nthe unit: 0\.\d s of a processor before, 0\.\d s after \(kit-of-the-test logic 1\)\n")
+        self.assertRegex(said, r"\nthe unit: 0\.\d s of a processor before, 0\.\d s after \(kit-of-the-test logic 1\)")
         self.assertRegex(said, r"\none +\d\.\d\d +\d\.\d\d\nthe rest +-?\d\.\d\d\nthe whole +[1-6]\.\d\d +\d\.\d\d\n")
         self.assertRegex(lines[-1], r"^by the clock \d+\.\d\d units, \d+ s; status 4$")
 
     def test_no_unit(self):
         status, said = self.run_with(1, "--", "true")
-        self.assertEqual((status, said), (3, "gate: rt verdict of rattle/examples/worked/bikes ended with status 1: \n"))
+        wanted = "gate: rt verdict of rattle/examples/worked/bikes ended with status 1: \n"
+        self.assertEqual((status, said), (3, wanted))
 
     def test_wrong_words(self):
         self.assertEqual(self.run_with(0, "--all")[0], 2)
