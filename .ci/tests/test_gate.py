@@ -1,4 +1,4 @@
-"""`bench/gate`: what it prints of costs, by hand; and what it sees of processes that use a known time of a processor."""
+"""`bench/gate`: what it prints of costs, by hand; and what it sees of processes that take a known time."""
 import os
 import subprocess
 import sys
