@@ -6,6 +6,7 @@ from collections.abc import Iterable, Iterator
 from contextlib import contextmanager
 from pathlib import Path
 
+import toolchain
 from editing import verdicts
 from editing.blocks import Edit, EditsError
 from editing.verdicts import Commands
@@ -104,7 +105,7 @@ class Attempts:
         folder.mkdir(exist_ok=True)
         for edit in edits:
             (folder / edit.file_name).write_text(edit.text)
-        lines = self.commands.run_until(["rt", "must-fail", self.name], self.copy, self.end)
+        lines = self.commands.run_until([toolchain.found() or RT, "must-fail", self.name], self.copy, self.end)
         if lines is None:
             return None
         for line in lines:

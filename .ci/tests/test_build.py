@@ -142,13 +142,26 @@ class Callers(unittest.TestCase):
             (top / ".ci/build").write_text(f"#!/bin/sh\nexit {status}\n")
             (top / ".ci/build").chmod(0o755)
             environment = {key: value for key, value in os.environ.items() if key != "SFTPV3"}
-            return subprocess.run([top / name], env=environment, stdin=subprocess.DEVNULL, check=False).returncode
+            words = [top / name, *["--proved"] * (name == "sftpv3")]
+            return subprocess.run(words, env=environment, stdin=subprocess.DEVNULL, check=False).returncode
 
     def test_status(self):
         for name in ("sftpv3", "install"):
             for status, wanted in ((1, 3), (3, 3), (127, 3), (129, 129), (130, 130), (143, 143)):
                 with self.subTest(name, status=status):
                     self.assertEqual(self.status_of(name, status), wanted)
+
+    def test_what_is_not_proved_is_not_installed(self):
+        with tempfile.TemporaryDirectory() as folder:
+            program, to = Path(folder, "sftpv3-not-proved"), Path(folder, "to")
+            program.write_text("#!/bin/sh\necho 'sftpv3 0.2.0 (commit 1234, rattle-kit-13f) (not proved)'\n")
+            program.chmod(0o755)
+            deb = [[FOLDER.parent / "packaging/deb", to]] if shutil.which("dpkg-deb") else []
+            for words in ([FOLDER.parent / "install", "--prefix", to], *deb):
+                ran = subprocess.run(words, env={**os.environ, "SFTPV3": str(program)}, stdin=subprocess.DEVNULL,
+                                     stdout=subprocess.DEVNULL, stderr=subprocess.PIPE, text=True, check=False)
+                self.assertEqual((ran.returncode, ran.stderr, to.exists()), (
+                    3, f"install: {program} is not proved: ./sftpv3 --proved proves and builds out/sftpv3\n", False))
 
     def test_a_source_of_an_old_date_is_built(self):
         with tempfile.TemporaryDirectory() as folder:
@@ -168,7 +181,7 @@ class Callers(unittest.TestCase):
                     os.utime(top / "new.rt", (1, 1))
                     os.replace(top / "new.rt", source)
                     os.utime(source.parent, (1, 1))
-                ran = subprocess.run([top / "sftpv3"], stdin=subprocess.DEVNULL, stderr=subprocess.PIPE, text=True,
-                                     check=False)
+                ran = subprocess.run([top / "sftpv3", "--proved"], stdin=subprocess.DEVNULL, stderr=subprocess.PIPE,
+                                     text=True, check=False)
                 self.assertEqual(("/.ci/build\n" in ran.stderr, ran.stderr.endswith("/out/sftpv3\n")),
                                  (is_changed, True), ran.stderr)

@@ -5,6 +5,8 @@ import subprocess
 from pathlib import Path
 
 from night_trials.place import ENDS_WELL, USER, environment
+from record_trials.steps import PROGRAM
+from trials.processes import executable
 
 
 def usage(steps, place):
@@ -51,4 +53,24 @@ def no_state(steps, place):
                 f"nightly: {place.state / USER}: ")
 
 
-TRIALS = (usage, nobody_reads, no_state)
+# The program, with a version as that of one that ./sftpv3 had built without a proof.
+UNPROVED = """#!/bin/sh
+[ "$1" != --version ] || {{ echo 'sftpv3 0.2.0 (commit 1234, rattle-kit-13f) (not proved)'; exit; }}
+exec {program} "$@"
+"""
+
+
+def not_proved(steps, place):
+    """Nothing is judged by a program that nothing has proved, on the first night and on later ones."""
+    program = executable(place.room / "unproved", UNPROVED.format(program=PROGRAM))
+    told = f"nightly: {program} is not proved, and a night's verdicts are those of the proved program\n"
+    said = place.nightly(program=program)
+    steps.check("a program that is not proved: status 3, and nothing is made", said == (3, told) and
+                not (place.state / USER).exists(), said)
+    place.begin("mkdir d")
+    said = place.nightly(program=program)
+    steps.check("later, too, and the record stays", said == (3, told) and len(list(place.records.iterdir())) == 1, said)
+    place.check(steps, "the proved one judges it", 0, ": accepted ", "1 session accepted; " + ENDS_WELL)
+
+
+TRIALS = (usage, nobody_reads, no_state, not_proved)

@@ -36,6 +36,17 @@ UNREAD = ("--json", "--progress", "--help", "-h")
 NEAR, NAMED = 200, 5
 
 
+# What the version says of a program that ./sftpv3 had built without a proof.
+NOT_PROVED = b"(not proved)"
+
+
+def check_proved(program_file):
+    """Raises Failed if nothing has proved the program."""
+    done = subprocess.run([program_file, "--version"], stdin=subprocess.DEVNULL, stdout=subprocess.PIPE, check=False)
+    if NOT_PROVED in done.stdout:
+        raise Failed(f"{program_file} is not proved, and a night's verdicts are those of the proved program")
+
+
 def usual(program_file):
     """The options of an audit of users' sessions, as far as the program has them: the words of each. The system gives
     what is made in a folder with the set-gid bit the folder's group."""
@@ -111,6 +122,7 @@ class Night:
 
     def __init__(self, given):
         self.given, self.program = given, program.program()
+        check_proved(self.program)
         self.options = options_of(self.program, given.audit)
         if not any(it.partition("=")[0] == "--memory" for it in self.options):
             self.options += ["--memory", str(given.memory)]
