@@ -186,6 +186,35 @@ def try_link(steps, folder):
                     and "a symbolic link of another user" in said, f"{status}: {said}")
 
 
+SWAPS = """#!/bin/sh
+{program} "$@"
+status=$?
+for last; do :; done
+if [ "$1" = infer ] && [ "${{last##*/}}" != begun.tree ]; then
+    rm -f {tree} && ln -s {victim} {tree} && chown -h 65534 {tree}
+fi
+exit $status
+"""
+
+
+def try_swapped(steps, folder):
+    """Where another user puts a link in the place of the tree that was just made, --owner changes nothing behind it."""
+    if steps.lacks_root("a link in the place of the tree", "needs root"):
+        return
+    victim, swaps, shared = (os.path.join(folder, name) for name in ("victim", "swaps", "of-all"))
+    os.mkdir(shared)
+    os.chmod(shared, 0o777)
+    tree = os.path.join(shared, "swapped.tree")
+    with open(victim, "wb") as file:
+        file.write(bytes(64))
+    executable(swaps, SWAPS.format(program=program(), tree=tree, victim=victim))
+    status, said = run([WALK, "--owner", "7:8", "--to", tree, "--", *HOSTILE, "Right"], folder,
+                       env={**os.environ, "SFTPV3": swaps})
+    with open(victim, "rb") as file:
+        steps.check("--owner: a link in the place of the tree that was made leads nowhere", status == 3 and
+                    file.read() == bytes(64) and "a symbolic link of another user" in said, f"{status}: {said}")
+
+
 def try_mistakes(steps, folder):
     """What a user gets wrong is told in words, before the server starts."""
     for options, command, wanted in (
@@ -281,4 +310,4 @@ def try_usage(steps, folder):
 
 
 TRIALS = (try_records, *needs_infer(try_strict, try_absent, try_limited, try_posix, try_hostile, try_entries, try_owner,
-                                    try_usage, try_names, try_no_folder, try_mistakes, try_link))
+                                    try_swapped, try_usage, try_names, try_no_folder, try_mistakes, try_link))

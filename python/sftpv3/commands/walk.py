@@ -40,6 +40,7 @@ from sftpv3.peer import servers
 from sftpv3.peer.servers import is_crash
 from sftpv3.spool import sinks
 from sftpv3.system import ending, naming, program, temporary
+from sftpv3.system.replacing import Replacing
 from sftpv3.system.standard import end, left_unsaid
 from sftpv3.system.ways import end_of, is_one_file
 from sftpv3.walk import bounds, looking, options, remains, sessions
@@ -121,12 +122,15 @@ def tell_end(status):
 
 
 def make_tree(given, transcript, folder):
-    place = given.to or os.path.join(folder, "seen.tree")
+    is_aside = given.to is None or given.owner is not None
+    place = os.path.join(folder, "seen.tree") if is_aside else given.to
     with remains.removed(place):
         is_there, said, why = looking.infer(program.program(), transcript, place, given.infer_words, given.memory)
-        if is_there and given.owner:
-            put_owner(place, given.owner)
+    if is_there and given.owner:
+        put_owner(place, given.owner)
     tell_lines(why.splitlines())
+    if is_there and is_aside and given.to is not None:
+        put_in_place(place, given.to)
     if said and given.to is None:
         program.tell(said)
     elif said:
@@ -137,9 +141,19 @@ def make_tree(given, transcript, folder):
 
 
 def put_owner(place, owner):
-    """Says in the tree file whose the things are that sessions make: the walk made none."""
+    """Says in the tree file whose the things are that sessions make: the walk made none. The file is in a folder that
+    nobody else enters, so it is the one that was made."""
     with open(place, "r+b") as file:
         trees.put_owner(file, owner)
+
+
+def put_in_place(made, name):
+    """Has the tree that was made take a name. Raises OSError if a link of another user is on the way to it."""
+    target, found = end_of(name)
+    with open(made, "rb") as tree, Replacing(target) as new:
+        shutil.copyfileobj(tree, new.file)
+        new.sync(stat.S_IMODE(found.st_mode) & 0o777 if found else 0o600)
+        new.keep()
 
 
 def print_tree(place):

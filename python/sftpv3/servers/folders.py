@@ -18,7 +18,7 @@ import time
 from typing import NamedTuple
 
 from sftpv3.servers import mounts
-from sftpv3.system import mounted, program, temporary
+from sftpv3.system import mounted, program, temporary, ways
 from sftpv3.system.removing import DIRECTORY, remove_directory
 
 PREFIX, ROOT = "sftpv3-root-", "root"
@@ -285,8 +285,9 @@ class Kept(Folder):
 
     def locked(self):
         """Gives a descriptor of the folder, which holds it locked. Raises NotOwn if it is not this user's alone, or if
-        it has what no earlier session made."""
-        held = os.open(self.name, DIRECTORY)
+        it has what no earlier session made, and OSError if it is a link, or if a link of another user is on the way."""
+        with ways.location_of(self.name.rstrip("/") or self.name) as place:
+            held = place.open(DIRECTORY)
         try:
             state, user = os.fstat(held), os.geteuid()
             if state.st_uid != user:
