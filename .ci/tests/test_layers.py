@@ -77,6 +77,34 @@ def cycle(known: dict) -> list[str]:
     return path[path.index(path[-1]):] if path else []
 
 
+def names_of(tree: ast.Module) -> set[str]:
+    """What a module has at its top, also below an `if` or a `try` there."""
+    found = {it.name for it in ast.walk(tree) if isinstance(it, (ast.FunctionDef, ast.ClassDef))}
+    found |= {it.id for it in ast.walk(tree) if isinstance(it, ast.Name) and isinstance(it.ctx, ast.Store)}
+    return found | {(it.asname or it.name).split(".")[0] for node in ast.walk(tree)
+                    if isinstance(node, (ast.Import, ast.ImportFrom)) for it in node.names}
+
+
+def missing(known: dict, trees: dict) -> Iterator[str]:
+    """What these files take from modules of the package that do not have it."""
+    has = {name: names_of(tree) for name, tree in known.items()}
+    for name, tree in trees.items():
+        modules = {}
+        for node in ast.walk(tree):
+            if isinstance(node, ast.ImportFrom) and (node.module or "").split(".")[0] == PACKAGE:
+                for it in node.names:
+                    what = f"{node.module}.{it.name}"
+                    if what in known:
+                        modules[it.asname or it.name] = what
+                    elif it.name not in has.get(node.module, ()):
+                        yield f"{name}:{node.lineno}: there is no {what}"
+        for node in ast.walk(tree):
+            if isinstance(node, ast.Attribute) and isinstance(node.value, ast.Name) and node.value.id in modules:
+                what = f"{modules[node.value.id]}.{node.attr}"
+                if what not in known and node.attr not in has[modules[node.value.id]] | {"__name__", "__file__"}:
+                    yield f"{name}:{node.lineno}: there is no {what}"
+
+
 def changed_paths(text: str) -> list[int]:
     """The lines that name sys.path, but for comments."""
     return [number for number, line in enumerate(text.splitlines(), 1) if re.search(r"sys\.path\b", line.split("#")[0])]
@@ -90,6 +118,10 @@ class Layers(unittest.TestCase):
 
     def test_no_modules_import_each_other(self):
         self.assertEqual(cycle(modules(TOP / "python")), [])
+
+    def test_what_scripts_take_from_the_package_is_there(self):
+        trees = {it: ast.parse((TOP / it).read_text()) for it in scripts.scripts(texts.files(), "python")}
+        self.assertEqual([*missing(modules(TOP / "python"), trees)], [])
 
     def test_no_script_changes_where_modules_are_searched(self):
         found = []
@@ -110,6 +142,9 @@ class Layers(unittest.TestCase):
             "sftpv3.low.d:1: trials is not of the standard library", "sftpv3.other: it is in no layer"])
         self.assertEqual(cycle(known), ["sftpv3.low.a", "sftpv3.high.b", "sftpv3.low.a"])
         self.assertEqual(cycle({it: known[it] for it in known if it != "sftpv3.low.a"}), [])
+        taking = ast.parse("from sftpv3.low import a, z\na.f()\na.g()\n")
+        self.assertEqual([*missing(known, {"x": taking})], ["x:1: there is no sftpv3.low.z",
+                                                            "x:3: there is no sftpv3.low.a.g"])
         self.assertEqual(changed_paths("import sys\n# sys.path\nsys.path.insert(0, 'x')\nos.path.join()"), [3])
 
 

@@ -8,6 +8,7 @@ import tempfile
 from dataclasses import dataclass
 
 from sftpv3.codec import trees
+from sftpv3.peer import servers
 from sftpv3.probe import planner, sessions
 from sftpv3.system import program
 
@@ -149,7 +150,7 @@ def record(folder, tree, steps, seed, in_flight):
     tree_file, transcript = (os.path.join(folder, name) for name in ("start.tree", "session.transcript"))
     trees.write(tree, tree_file)
     words = ["--shuffle", str(seed)] if in_flight > 1 else []
-    server = sessions.Server([program.program(), "serve", "--tree", tree_file, *words])
+    server = servers.Server([program.program(), "serve", "--tree", tree_file, *words])
     session = sessions.play(server, tree_file, steps, in_flight)
     with open(transcript, "wb") as file:
         file.write(session.transcript())

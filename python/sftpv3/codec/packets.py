@@ -6,6 +6,7 @@ as it can be read; `read` and `front` read by the letter, and name the first fau
 """
 from __future__ import annotations
 
+from collections.abc import Callable
 from typing import Any
 
 from sftpv3.codec import fields
@@ -88,8 +89,9 @@ KINDS = {"path": "string", "new_path": "string", "target": "string", "link": "st
          "length": "uint32", "code": "uint32", "offset": "uint64"}
 KINDS_OF = {name: [KINDS.get(field, field) for field in layout.split()] for name, (_, layout) in LAYOUTS.items()}
 
-WRITERS = {"string": string, "handle": string, "uint32": uint32, "uint64": fields.uint64, "pairs": pairs,
-           "attributes": fields.attributes, "names": fields.names, "rest": bytes}
+WRITERS: dict[str, Callable[..., bytes]] = {
+    "string": string, "handle": string, "uint32": uint32, "uint64": fields.uint64, "pairs": pairs,
+    "attributes": fields.attributes, "names": fields.names, "rest": bytes}
 
 # The names of packets by their types; of extensions, the name of those that are not known.
 NAMES = {kind: name for name, (kind, _) in LAYOUTS.items()}
@@ -103,7 +105,7 @@ LOOKERS = {"LSTAT", "STAT", "FSTAT", "READ", "REALPATH", "READLINK", "FSYNC", "L
 class Packet:
     """A packet: its id, or None; its name; the values of its fields."""
 
-    def __init__(self, number: int | None, name: str, values: list):
+    def __init__(self, number: int | None, name: str, values: list[Any]):
         self.number, self.name, self.fields = number, name, values
 
     def __eq__(self, other: object) -> bool:
@@ -167,14 +169,13 @@ def id_of(data: bytes) -> int:
 def split(data: bytes) -> tuple[list[bytes], bytes]:
     """The packets of a stream by their lengths alone, and what is left behind them."""
     found, at = [], 0
-    while len(data) - at >= 4 and len(data) - at >= length(data[at:at + 4]):
-        end = at + length(data[at:at + 4])
-        found.append(data[at:end])
-        at = end
+    while (size := length(data[at:at + 4])) is not None and len(data) - at >= size:
+        found.append(data[at:at + size])
+        at += size
     return found, data[at:]
 
 
-def named(name: str, source: Fields) -> tuple[str, list]:
+def named(name: str, source: Fields) -> tuple[str, list[Any]]:
     """The values of a packet from the bytes behind its id, and its name, which that of an extension turns out to be."""
     start = source.place
     if name == "EXTENDED":
@@ -193,7 +194,7 @@ def decode(data: bytes) -> Request:
     return Request(number, *named(NAMES[kind], source))
 
 
-def names_in(data: bytes) -> list:
+def names_in(data: bytes) -> list[tuple[bytes, bytes, dict[str, Any]]]:
     """The items of a NAME: each a name, a long name and attributes."""
     return Fields(data[9:]).names()
 

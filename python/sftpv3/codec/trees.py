@@ -193,7 +193,8 @@ class Reader:
     0 in the head, and its kind."""
 
     def __init__(self, data: bytes):
-        self.fields, self.number, self.limits = Fields(data), 0, USUAL
+        self.fields, self.number = Fields(data), 0
+        self.limits: tuple[int, ...] = USUAL
         self.is_wide, self.room = False, NO_LIMIT_OF_ALL
         self.directories: set[tuple[bytes, ...]] = {()}
         self.files: dict[int, bytes] = {}
@@ -237,7 +238,8 @@ class Reader:
 
     def place(self) -> tuple[bytes, ...]:
         place = place_of(self.string())
-        self.judge(place is not None)
+        if place is None:
+            raise self.fault("Value")
         return place
 
     def tree(self) -> Tree:
@@ -287,7 +289,8 @@ class Reader:
             return self.owned(place, path, *LETTERS[kind])
         if kind == FURTHER:
             first = self.files.get(self.number_in())
-            self.judge(first is not None)
+            if first is None:
+                raise self.fault("Value")
             return Entry(path, kind, first)
         self.judge(kind == LINK)
         target = self.string()

@@ -8,6 +8,7 @@ from typing import List, Optional
 
 from sftpv3.codec import trees
 from sftpv3.page import document
+from sftpv3.peer import servers
 from sftpv3.probe import (below, features, groups, hints, lacking, lasting, limits, options, ownfiles, planner, plans,
                           reports, restarts, sessions, shrinking, starting, together, verdicts)
 from sftpv3.probe.sessions import NotStarted
@@ -57,7 +58,7 @@ class Plan:
                 if not self.outcome.differences:
                     raise
                 break
-            except sessions.servers.ResetFailed:
+            except servers.ResetFailed:
                 raise
             except NotStarted as error:
                 self.outcome.not_started = error if number == 0 else None
@@ -159,7 +160,7 @@ class Run:
         self.try_profile(auditor, os.path.join(folder, "asked.tree"))
         auditor.lacks = lacking.Lacking(given.without, (self.tree.uid, self.tree.gid), hints.umask(auditor.options))
         self.tree = auditor.lacks.tree(self.tree)
-        server = sessions.Server(given.command, given.reset, left, given.symlink == "draft", "BadHandle" in given.skip)
+        server = servers.Server(given.command, given.reset, left, given.symlink == "draft", "BadHandle" in given.skip)
         # a record has the order of its server, a plan that of OpenSSH
         self.recorded = self.recorded and list(map(server.in_order, self.recorded))
         if given.start_again:
