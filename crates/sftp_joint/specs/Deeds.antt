@@ -58,8 +58,8 @@ abbrev pub deed_before : ℕ → Request → Option Reply → List Deed → List
 deed_before client request None deeds = []
 deed_before client request (Some reply) deeds = answered client request reply ∷ deeds
 
--- Each request in the order asked, with the next reply of its id that its own client was given, up to the first that has
--- none; and the ends of sessions.
+-- Each request in the order asked, with the next reply of its id that its own client was given, up to the first that
+-- has none; and the ends of sessions.
 unfoldable pub deeds_of : List Happening → List Deed
 deeds_of [] = []
 deeds_of (did client (Asked request) ∷ happenings) =
@@ -80,8 +80,8 @@ RunTogether {S} step leave s (answered client request reply ∷ deeds) end =
 RunTogether step leave s (departed client ∷ deeds) end = RunTogether step leave (leave client s) deeds end
 
 -- What it means that a server served several clients on one tree: each session for itself takes turns and keeps the
--- window, a session that ended is over, and the requests of all, carried out singly and in the order in which the server
--- took them, allow these replies.
+-- window, a session that ended is over, and the requests of all, carried out singly and in the order in which the
+-- server took them, allow these replies.
 pub record AreServed {S : Type 0} (step : StepOf S) (leave : LeaveOf S) (start : S) (happenings : List Happening)
     (end : S) : Type 0 where
   pub matching : (client : ℕ) → Matching (events_of client happenings)

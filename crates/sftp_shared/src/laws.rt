@@ -1,5 +1,5 @@
-//! Laws of several clients on one tree, as theorems on the definitions. The functions do nothing; each promise is in the
-//! contract.
+//! Laws of several clients on one tree, as theorems on the definitions. The functions do nothing; each promise is in
+//! the contract.
 ghost use Rattle.std.specs.Prelude.{◌≡◌, ◌≢◌, ◌<◌, ◌^◌, ℕ, List, None, IsTrue};
 ghost use Rattle.sftp_packets.specs.declared.packets.Request.{Request};
 ghost use Rattle.sftp_packets.specs.declared.packets.Reply.{Reply};

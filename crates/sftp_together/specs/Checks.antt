@@ -1,5 +1,6 @@
 -- How far an order of several sessions is right, and why it goes no further. This profile's own.
-use Rattle.std.specs.Prelude.{◌≡◌, ◌==◌, ◌⊎◌, ◌+◌, ⊤, nat_lt, ℕ, Bool, true, false, List, [], ◌∷◌, ◌++◌, map, length, max, Option, Some, None}
+use Rattle.std.specs.Prelude.{◌≡◌, ◌==◌, ◌⊎◌, ◌+◌, ⊤, nat_lt, ℕ, Bool, true, false, List, [], ◌∷◌, ◌++◌, map}
+use Rattle.std.specs.Prelude.{length, max, Option, Some, None}
 use Rattle.sftp_transcript.specs.Explained.{StepOf, Run}
 use Rattle.sftp_together.specs.declared.exchanges.TimedExchange.{TimedExchange}
 use Rattle.sftp_together.specs.declared.errors.OrderFault.{OrderFault}
