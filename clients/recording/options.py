@@ -12,7 +12,7 @@ from recording.notices import Notices, write_error
 from recording.packets import OPENING
 from recording.server import start
 from recording.sessions import OWN_FAILURE, Session, Signals
-from recording.sinks import Failed, FileSink, SpoolSink, TimesSink
+from recording.sinks import BootTimesSink, Failed, FileSink, SpoolSink, TimesSink, boot_id
 from recording.starts import NotStarted, program_beside
 from recording.ways import named_twice, refuse_link_of_another
 
@@ -24,7 +24,7 @@ AUDIT_VALUES = {"--tree": "FILE", "--out": "FILE", "--profile": "NAME", "--allow
 AUDIT_FLAGS = ("--cut", "--json", "--no-sync")
 
 # All options of the recorder: without a value, and with one.
-FLAGS = ("--plain", "--overwrite", "--required", "--syslog", "--audit", "--stop", *AUDIT_FLAGS)
+FLAGS = ("--plain", "--overwrite", "--required", "--syslog", "--audit", "--stop", "--boot-clock", *AUDIT_FLAGS)
 VALUES = ("--times", "--spool", "--log", "--program", *AUDIT_VALUES)
 GRACE = 30.0
 # How many files the daemon may have open.
@@ -106,6 +106,8 @@ def read_options(words):
         complain(f"{of_audit[0]} is an option of --audit")
     if options.audit and not options.tree:
         complain("--audit needs --tree")
+    if options.boot_clock and not options.times:
+        complain("--boot-clock is an option of --times")
     if options.spool and options.overwrite:
         complain("--overwrite and --spool exclude each other")
     try:
@@ -153,10 +155,16 @@ class Records:
             return True
         if self.options.times:
             try:
-                self.times = TimesSink(self.opened_file(self.options.times), time.monotonic_ns)
-            except naming.NotMade as error:
+                self.times = self.times_sink()
+            except (naming.NotMade, ValueError, OSError) as error:
                 self.notices.say(f"{error}; the times are not recorded")
         return True
+
+    def times_sink(self):
+        if not self.options.boot_clock:
+            return TimesSink(self.opened_file(self.options.times), time.monotonic_ns)
+        boot = boot_id()
+        return BootTimesSink(self.opened_file(self.options.times), boot)
 
     def opened_file(self, name):
         opened = naming.Opened(name, self.options.overwrite, self.is_wanted)
