@@ -17,7 +17,7 @@ FAULTY = os.path.join(CLIENTS, "order_trials", "faulty.py")
 SFTP_SERVER = "/usr/lib/openssh/sftp-server"
 
 # How long a set may take.
-SECONDS = 120
+SECONDS = 600
 
 
 class Client:

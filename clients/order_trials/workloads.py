@@ -58,8 +58,8 @@ def mix(client, number, choice, count):
 
 
 def one_path(client, choice, path, other):
-    name = choice.choice(["STAT", "LSTAT", "REMOVE", "RMDIR", "READLINK", "POSIX-RENAME", "HARDLINK"])
-    client.ask(name, path, *([other] if name in ("POSIX-RENAME", "HARDLINK") else []))
+    name = choice.choice(["STAT", "LSTAT", "REMOVE", "RMDIR", "READLINK", "POSIX-RENAME"])
+    client.ask(name, path, *([other] if name == "POSIX-RENAME" else []))
 
 
 def rename(client, number, choice, count):
@@ -104,6 +104,7 @@ def dirs(client, number, choice, count):
         if act < 3:
             client.ask("MKDIR", folder, {})
             use_file(client, path, WRITE | CREAT, [])
+            client.ask("HARDLINK", path, folder + b"/%d" % choice.randrange(6))
         elif act < 5:
             list_folder(client, folder)
         elif act == 5:
