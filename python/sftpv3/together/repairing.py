@@ -25,6 +25,8 @@ class Repairs:
     def __init__(self, search: "Search"):
         self.search = search
         self.tried: set[tuple[Deed, Deed, Deed]] = set()
+        # what the last goal needs to be right: what it looks at, and what those look at that changed that
+        self.needed: set[tuple] = set()
 
     def repair(self, goal: Deed) -> bool:
         """Finds one request that makes the goal right if it goes before another one. Then the goal is done, else the
@@ -37,7 +39,7 @@ class Repairs:
         traces = self.traces(first, deeds)
         if traces is None:
             return False
-        matters = which_matter(traces, needs)
+        matters, self.needed = which_matter(traces, needs)
         pairs = ((at, session) for at in reversed(range(back)) if matters[at]
                  for session in self.rivals(first + at, traces[at], deeds[at]))
         for at, session in islice(pairs, ATTEMPTS):
@@ -46,6 +48,11 @@ class Repairs:
         search.back_to(first)
         search.follow(deeds)
         return False
+
+    def only_needed(self, candidates: list[tuple[int, bool]]) -> list[tuple[int, bool]]:
+        """The first of these, and those that change what is needed."""
+        return candidates[:1] + [it for it in candidates[1:] if not self.needed.isdisjoint(
+            self.trace_next(self.search.head(it[0])).writes)]
 
     def trace_of(self, deed: Deed) -> Trace:
         """What a request looks at that is wrong here."""
@@ -102,12 +109,12 @@ class Repairs:
         return True
 
 
-def which_matter(traces: list[Trace], needs: Trace) -> list[bool]:
-    """Of each choice whether it changed what is needed behind it."""
+def which_matter(traces: list[Trace], needs: Trace) -> tuple[list[bool], set[tuple]]:
+    """Of each choice whether it changed what is needed behind it; and all that is needed."""
     needed, found = set(needs.reads), []
     for trace in reversed(traces):
         matters = not trace.writes.isdisjoint(needed)
         if matters:
             needed |= trace.reads
         found.append(matters)
-    return found[::-1]
+    return found[::-1], needed

@@ -7,26 +7,36 @@ of their replies. If that is wrong for some request (`goal`), then it is tried, 
 
 - which requests that are in flight make it right, if they come first (`look_ahead`);
 - which one request has to go before another, of those that were done lately (`Repairs`);
+- orders from some choices back on, in which only what seems to matter leaves its place (`explore_near`);
 - all orders from some choices back on, from ever more (`explore`); from the beginning on, that is all there are.
 
 Where nothing comes of a state, it is remembered by a hash of 64 bits, so each is left but once.
 """
 from __future__ import annotations
 
-from collections.abc import Iterator
-from typing import Optional
+from collections.abc import Callable, Iterator
+from typing import TYPE_CHECKING, Optional
 
 from .deeds import LEFT_OUT, NEVER, Deed
 from .states import State
 
+if TYPE_CHECKING:
+    from .repairing import Repairs
+
 # How many choices back the search goes at first, and by which factor it goes further.
 NEAR, FURTHER = 12, 4
+
+# How many choices back only what seems to matter is moved, and in how many steps.
+NEARBY, NEARBY_STEPS = (8, 24, 72), 6000
 
 # How many of the requests in flight are tried before another one, without a look at what is between.
 DEPTH = 3
 
 # A part of the order: the request, and the number of the part.
 Done = tuple[Deed, int]
+
+# A session whose next request may be next, and whether that is left out.
+Candidate = tuple[int, bool]
 
 
 class OutOfSteps(Exception):
@@ -192,7 +202,7 @@ class Search:
 
     # which requests may be next
 
-    def candidates(self) -> list[tuple[int, bool]]:
+    def candidates(self) -> list[Candidate]:
         """The sessions whose next request is a choice, the best ones first, and whether it is left out."""
         limit, found = self.limit(), []
         for session, due in enumerate(self.due):
@@ -229,7 +239,7 @@ class Search:
             if self.go_on(goal) or self.look_ahead(goal):
                 continue
             self.note_failure(goal)
-            if not repairs.repair(goal) and not self.explore_ever_more(goal):
+            if not repairs.repair(goal) and not self.explore_near(goal, repairs) and not self.explore_ever_more(goal):
                 return False
 
     def go_on(self, goal: Deed) -> bool:
@@ -263,6 +273,30 @@ class Search:
                 self.back_to(count)
         return False
 
+    def explore_near(self, goal: Deed, repairs: "Repairs") -> bool:
+        """Tries orders in which what is done first is as usual, or changes what the goal needs. What comes of nothing
+        here may come of something else, so it is not remembered."""
+        kept = self.dead, self.bound
+        for back in NEARBY:
+            count = max(0, len(self.choices) - back)
+            before = [choice.deed for choice in self.choices[count:]]
+            self.back_to(count)
+            self.dead, self.bound = set(), min(kept[1], self.steps + NEARBY_STEPS)
+            is_found = self.explores_within(goal, repairs)
+            self.dead, self.bound = kept
+            if is_found:
+                return True
+            self.back_to(count)
+            self.follow(before)
+        return False
+
+    def explores_within(self, goal: Deed, repairs: "Repairs") -> bool:
+        """Whether a part of the exploration does the goal within the bound."""
+        try:
+            return self.explore(goal, repairs.only_needed)
+        except OutOfSteps:
+            return False
+
     def explore_ever_more(self, goal: Deed) -> bool:
         """Tries all orders from a choice on, further and further back, until the goal is done."""
         back = NEAR
@@ -294,10 +328,11 @@ class Search:
             if self.head(deed.session) is deed:
                 self.choose(deed.session)
 
-    def explore(self, goal: Deed) -> bool:
-        """Whether some order from here does the goal. It is done then."""
+    def explore(self, goal: Deed, chosen: Callable[[list[Candidate]], list[Candidate]] = list) -> bool:
+        """Whether some order from here does the goal, of the candidates that are chosen at each step. It is done
+        then."""
         floor = len(self.choices)
-        waiting: list[Iterator[tuple[int, bool]]] = [iter(self.candidates())]
+        waiting: list[Iterator[Candidate]] = [iter(chosen(self.candidates()))]
         while waiting:
             candidate = next(waiting[-1], None)
             if candidate is None:
@@ -310,7 +345,7 @@ class Search:
                 if self.key() in self.dead:
                     self.back_to(len(self.choices) - 1)
                 else:
-                    waiting.append(iter(self.candidates()))
+                    waiting.append(iter(chosen(self.candidates())))
         return False
 
     def key(self) -> int:
