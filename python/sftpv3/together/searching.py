@@ -67,6 +67,8 @@ class Search:
         self.dead: set[int] = set()
         # in an exploration, an OPENDIR may wait, too
         self.is_exploring = False
+        # in an exploration, where requests stood in the order that is left: it is tried first
+        self.usual: dict[Deed, int] = {}
         # requests that had better wait for these
         self.waits: dict[Deed, set[Deed]] = {}
         self.furthest: tuple[int, Optional[Deed], list[Done]] = (-1, None, [])
@@ -208,11 +210,12 @@ class Search:
         for session, due in enumerate(self.due):
             deed = self.head(session)
             if deed is not None and deed.asked <= limit and not self.is_absorbed(deed):
-                found.append((self.is_early(deed), due, session, False))
+                usual = self.usual.get(deed, NEVER)
+                found.append((self.is_early(deed), usual, due, session, False))
                 if deed.reply is None:
-                    found.append((True, due, session, True))
+                    found.append((True, usual, due, session, True))
         found.sort()
-        return [(session, is_left_out) for _, _, session, is_left_out in found]
+        return [(session, is_left_out) for _, _, _, session, is_left_out in found]
 
     def is_early(self, deed: Deed) -> bool:
         """Whether a request had better wait: for others, or until its file is as long as a READ says that it was."""
@@ -282,12 +285,15 @@ class Search:
             before = [choice.deed for choice in self.choices[count:]]
             self.back_to(count)
             self.dead, self.bound = set(), min(kept[1], self.steps + NEARBY_STEPS)
+            self.usual = places_in(before)
             is_found = self.explores_within(goal, repairs)
+            self.usual = {}
             self.dead, self.bound = kept
+            if not is_found:
+                self.back_to(count)
+            self.follow(before)
             if is_found:
                 return True
-            self.back_to(count)
-            self.follow(before)
         return False
 
     def explores_within(self, goal: Deed, repairs: "Repairs") -> bool:
@@ -307,8 +313,12 @@ class Search:
             self.back_to(count)
             if count == 0:
                 self.begin_anew()
-            if self.explore(goal):
+            self.usual = places_in(before)
+            is_found = self.explore(goal)
+            self.usual = {}
+            if is_found:
                 self.is_exploring = False
+                self.follow(before)
                 return True
             if count == 0:
                 return False
@@ -353,3 +363,6 @@ class Search:
         return hash((tuple(self.heads), tuple(self.parts), self.state.digest()))
 
 
+def places_in(deeds: list[Deed]) -> dict[Deed, int]:
+    """Where each request first stands."""
+    return {deed: at for at, deed in reversed(list(enumerate(deeds)))}
