@@ -65,7 +65,7 @@ class Command:
             return self.undecided(search)
         if not found:
             return self.refused(search)
-        return self.judge([Place(deed.session, part) for deed, part in search.order])
+        return self.judge([Place(deed.session, part) for deed, part in whole_where_together(search.order)])
 
     # orders
 
@@ -122,7 +122,7 @@ class Command:
             return Verdict("refused", text, **told, contradicts=None, steps=search.steps)
         other = found.other
         text += (f" is right before {self.place(other)} ({explaining.asked(other.request)}, "
-                 f"{explaining.answered(other)}), which had its reply {explaining.late(deed, other)}")
+                 f"{explaining.answered(other)}), {explaining.before(deed, other)}")
         return Verdict("refused", text, **told, contradicts=self.named(other), steps=search.steps)
 
     def undecided(self, search: searching.Search) -> Verdict:
@@ -132,6 +132,17 @@ class Command:
             return Verdict("undecided", text, steps=search.bound)
         text += f"; the furthest was {self.place(deed)} (of {self.count} requests, {count} are placed)"
         return Verdict("undecided", text, **self.named(deed), placed=count, steps=search.bound)
+
+
+def whole_where_together(order: list[searching.Done]) -> list[searching.Done]:
+    """The order, in which a request is whole whose parts stand one behind the other as they are numbered."""
+    found: list[searching.Done] = []
+    for deed, part in order:
+        found.append((deed, part))
+        count = len(deed.acts)
+        if part == count > 1 and found[-count:] == [(deed, at) for at in range(1, count + 1)]:
+            found[-count:] = [(deed, checking.WHOLE)]
+    return found
 
 
 def numbered(places: list[Place]) -> list[tuple[Place, Optional[int]]]:

@@ -35,11 +35,17 @@ def why(state: State, order: list[Done], deed: Deed) -> Why:
             done.acts[max(0, part - 1)].act(state)
     for length, (done, part) in zip(lengths[:-BACK - 1:-1], order[::-1]):
         state.undo(length)
-        if done.session == deed.session and part != LEFT_OUT and done is not deed:
-            break
-        if done.deadline < deed.asked and is_right(state, deed.acts):
+        if part == LEFT_OUT or done is deed:
+            continue
+        is_before = done.deadline < deed.asked or done.session == deed.session
+        if is_before and not gives_handle(done, deed) and is_right(state, deed.acts):
             return Why(deed, done)
     return Why(deed, None)
+
+
+def gives_handle(done: Deed, deed: Deed) -> bool:
+    """Whether a request gave the handle that the other one names."""
+    return done.session == deed.session and done.reply is not None and done.reply.name == "HANDLE"
 
 
 def is_right(state: State, acts: list[Request]) -> bool:
@@ -83,6 +89,8 @@ def told(deed: Deed) -> str:
     return f"{asked(deed.request)} answered {answered(deed)}"
 
 
-def late(deed: Deed, other: Deed) -> str:
-    """How much earlier the other one had its reply."""
-    return f"{(deed.asked - other.deadline) // 1000} us earlier"
+def before(deed: Deed, other: Deed) -> str:
+    """Why the other one comes first."""
+    if deed.session == other.session:
+        return "which its session asked for earlier"
+    return f"which had its reply {(deed.asked - other.deadline) // 1000} us earlier"
