@@ -156,8 +156,9 @@ def small_sets(steps, _):
         without += not found[1]
         if found[0] != found[1]:
             wrong.append(seed)
-    steps.check(f"the search says what brute force says: {with_order} sets with an order, {without} without, {left} too "
-                f"large, in {time.monotonic() - start:.0f} s", not wrong and with_order and without, wrong)
+    told = f"{with_order} sets with an order, {without} without, {left} too large"
+    steps.check(f"the search says what brute force says: {told}, in {time.monotonic() - start:.0f} s",
+                not wrong and with_order and without, wrong)
 
 
 TRIALS = (small_sets,)

@@ -1,5 +1,5 @@
-"""Servers with a fault in one of four sessions: a set in which the fault acted is accepted only if an order explains it,
-so most are not."""
+"""Servers with a fault in one of four sessions: a set in which the fault acted is accepted only if an order explains
+it, so most are not."""
 import os
 
 from order_trials.playing import make_set

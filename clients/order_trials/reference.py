@@ -1,8 +1,8 @@
-"""Whether some order explains a few sessions, by brute force over all orders, with the plain model of models/. Nothing of
-the search is used.
+"""Whether some order explains a few sessions, by brute force over all orders, with the plain model of models/. Nothing
+of the search is used.
 
-A request is done whole, or in units: each field of a SETSTAT in the order of OpenSSH's server, and each name of a READDIR,
-in any order. With `listing` names may come and go while a directory is read, as docs/PROFILES.md says.
+A request is done whole, or in units: each field of a SETSTAT in the order of OpenSSH's server, and each name of a
+READDIR, in any order. With `listing` names may come and go while a directory is read, as docs/PROFILES.md says.
 """
 import copy
 import itertools

@@ -1,5 +1,5 @@
-"""What clients do at once on one folder: each workload is a function of a client, of its number, of pseudorandom choices
-and of the count of requests. Paths are below the folder where the server starts."""
+"""What clients do at once on one folder: each workload is a function of a client, of its number, of pseudorandom
+choices and of the count of requests. Paths are below the folder where the server starts."""
 from __future__ import annotations
 
 from sftp3 import APPEND, CREAT, EXCL, READ, TRUNC, WRITE

@@ -1,5 +1,5 @@
-"""Whether an order keeps to the sessions and to the clock. It shares nothing with the search: it reads an order from its
-front, once, and keeps a counter for each session and the latest time at which anything so far was asked."""
+"""Whether an order keeps to the sessions and to the clock. It shares nothing with the search: it reads an order from
+its front, once, and keeps a counter for each session and the latest time at which anything so far was asked."""
 from __future__ import annotations
 
 from collections.abc import Iterable

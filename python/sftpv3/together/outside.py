@@ -7,9 +7,8 @@ from recording.parsers import Parser
 from recording.sinks import Clock
 from recording.sinks import Malformed as MalformedTimes
 from recording.sinks import clock_of
-from recording.standard import end
 from sftp3 import CLIENT, SERVER, packets, transcripts, trees
 from sftp3.fields import Fields, Malformed, string, uint32
 
-__all__ = ["CLIENT", "Clock", "Fields", "Malformed", "MalformedTimes", "NotBuilt", "Parser", "SERVER", "called", "clock_of", "end",
-           "packets", "program", "string", "transcripts", "trees", "uint32"]
+__all__ = ["CLIENT", "Clock", "Fields", "Malformed", "MalformedTimes", "NotBuilt", "Parser", "SERVER", "called",
+           "clock_of", "packets", "program", "string", "transcripts", "trees", "uint32"]

@@ -1,7 +1,7 @@
 """The search for an order.
 
-An order is built from its front. A request may be next if it is the next one of its session, and if no other one that is
-left was answered before it was asked. What changes nothing is done as soon as it is right: nothing is lost by that,
+An order is built from its front. A request may be next if it is the next one of its session, and if no other one that
+is left was answered before it was asked. What changes nothing is done as soon as it is right: nothing is lost by that,
 since it only gives way to others. So only what changes something is a choice. By default requests are done in the order
 of their replies. If that is wrong for some request (`goal`), then it is tried, one after another:
 
@@ -53,8 +53,8 @@ class Choice:
 
 
 class Search:
-    """A search through sessions. `heads` has the next request of each, `parts` which parts of it were done, as bits, and
-    `due` its deadline."""
+    """A search through sessions. `heads` has the next request of each, `parts` which parts of it were done, as bits,
+    and `due` its deadline."""
 
     def __init__(self, sessions: list[list[Deed]], state: State, tolerance: int, bound: int):
         self.sessions, self.state, self.tolerance, self.bound = sessions, state, tolerance, bound
