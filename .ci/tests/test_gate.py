@@ -9,7 +9,6 @@ from unittest import mock
 
 sys.dont_write_bytecode = True
 TOP = Path(__file__).resolve().parents[2]
-sys.path.insert(0, str(TOP / "bench"))
 import costs
 from costs import Costs, table
 

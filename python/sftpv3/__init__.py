@@ -7,6 +7,7 @@ recorder  records a session: sftpv3-record
 nights    audits the sessions of a day: sftpv3-nightly
 serve     serves a session that a signal ends in order: sftpv3-serve
 tree      the tree of a live folder: sftpv3-tree
+together  an order that explains sessions which overlapped: sftpv3-together
 peer      a server as its client has it: its process, its packets, its end
 page      a recorded session as HTML: sftpv3-page
 walk      looks at the files of a server: sftpv3-walk

@@ -9,4 +9,5 @@ misbehaving      servers that end, hang and are late, for tests/test-probe-runs;
 mutated          mistakes in sessions that are right, for tests/test-profiles
 surveyed         what plans do that clients do, for tests/test-probe
 between          servers with a fault each, for walks and nights; hostile: servers that mean harm to a walk
+overlapping      a fault that shows where sessions overlap, for tests/test-order
 """

@@ -12,7 +12,7 @@ from sftpv3.recorder.packets import OPENING
 from sftpv3.recorder.server import start
 from sftpv3.recorder.sessions import OWN_FAILURE, Session, Signals
 from sftpv3.recorder.words import AUDIT_FLAGS, AUDIT_MEMORY, AUDIT_VALUES, NAME, VALUES, plainly_read
-from sftpv3.spool.sinks import Failed, FileSink, SpoolSink, TimesSink
+from sftpv3.spool.sinks import BootTimesSink, Failed, FileSink, SpoolSink, TimesSink, boot_id
 from sftpv3.system import naming
 from sftpv3.system.notices import Notices, write_error
 from sftpv3.system.starts import NotStarted, program_beside
@@ -63,6 +63,8 @@ def read_options(words):
         complain(f"{of_audit[0]} is an option of --audit")
     if options.audit and not options.tree:
         complain("--audit needs --tree")
+    if options.boot_clock and not options.times:
+        complain("--boot-clock is an option of --times")
     if options.spool and options.overwrite:
         complain("--overwrite and --spool exclude each other")
     try:
@@ -110,10 +112,16 @@ class Records:
             return True
         if self.options.times:
             try:
-                self.times = TimesSink(self.opened_file(self.options.times), time.monotonic_ns)
-            except naming.NotMade as error:
+                self.times = self.times_sink()
+            except (naming.NotMade, ValueError, OSError) as error:
                 self.notices.say(f"{error}; the times are not recorded")
         return True
+
+    def times_sink(self):
+        if not self.options.boot_clock:
+            return TimesSink(self.opened_file(self.options.times), time.monotonic_ns)
+        boot = boot_id()
+        return BootTimesSink(self.opened_file(self.options.times), boot)
 
     def opened_file(self, name):
         opened = naming.Opened(name, self.options.overwrite, self.is_wanted)

@@ -9,7 +9,7 @@ AUDIT_VALUES = {"--tree": "FILE", "--out": "FILE", "--profile": "NAME", "--allow
 AUDIT_FLAGS = ("--cut", "--json", "--no-sync")
 
 # All options of the recorder: without a value, and with one.
-FLAGS = ("--plain", "--overwrite", "--required", "--syslog", "--audit", "--stop", *AUDIT_FLAGS)
+FLAGS = ("--plain", "--overwrite", "--required", "--syslog", "--audit", "--stop", "--boot-clock", *AUDIT_FLAGS)
 VALUES = ("--times", "--spool", "--log", "--program", *AUDIT_VALUES)
 GRACE = 30.0
 # The most memory of an audit, unless --memory says otherwise.

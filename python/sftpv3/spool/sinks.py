@@ -3,6 +3,7 @@ the file of times beside a transcript: when each record was there, as docs/FORMA
 import os
 import select
 import struct
+import time
 
 from sftpv3.system import ways
 
@@ -14,7 +15,11 @@ PEER = struct.Struct("3i")
 # How long a spool may take for a batch, lest a daemon that hangs holds up every session.
 SPOOL_PATIENCE = 10
 
-TIMES_OPENING = b"SFTPTM01"
+# A file of times of the second form says on which clock of which boot its times are.
+TIMES_OPENING, BOOT_OPENING = b"SFTPTM01", b"SFTPTM02"
+BOOT_ID, BOOT_BYTES = "/proc/sys/kernel/random/boot_id", 16
+# How often the date is asked for, to have one between two close looks at the machine's own clock.
+TRIES = 5
 
 # How many pieces one call writes at most.
 MOST_PIECES = 256
@@ -234,8 +239,57 @@ class TimesSink:
         self.sink.put(time_entries([self.clock() - self.start] * count))
 
 
+class BootTimesSink(TimesSink):
+    """The same of the second form, whose times can be compared with those of other sessions of the machine: all are of
+    one clock, which counts from the boot on."""
+
+    def __init__(self, opened, boot):
+        super().__init__(opened, boot_clock)
+        self.boot = boot
+
+    def begin(self, _):
+        date, self.start = date_and_zero(time.time_ns, self.clock)
+        self.sink.begin(boot_times_opening(self.boot, date, self.start))
+
+
+def boot_clock():
+    """The nanoseconds since the machine started, also those in which it slept."""
+    return time.clock_gettime_ns(time.CLOCK_BOOTTIME)
+
+
+def date_and_zero(date, clock):
+    """The date, and what the clock said then. A process may be put aside between any two looks, so the clock is asked
+    before and after the date, and of some tries that with the least between them counts."""
+    tries = []
+    for _ in range(TRIES):
+        before, now, after = clock(), date(), clock()
+        tries.append((after - before, now, before))
+    return min(tries)[1:]
+
+
+def boot_id():
+    """The 16 bytes that tell this boot of the machine from others; OSError or ValueError if the system does not say."""
+    with open(BOOT_ID, encoding="ascii") as file:
+        found = bytes.fromhex(file.read().strip().replace("-", ""))
+    if len(found) != BOOT_BYTES:
+        raise ValueError(f"{BOOT_ID} has no {BOOT_BYTES} bytes")
+    return found
+
+
 class Malformed(Exception):
     """A file of times that cannot be read."""
+
+
+class Clock:
+    """What a file of times says: the boot, or None of the first form; the date of the start; what the machine's clock
+    said then, or None; and the time of each record from then on."""
+
+    def __init__(self, boot, date, zero, times):
+        self.boot, self.date, self.zero, self.times = boot, date, zero, times
+
+    def start(self):
+        """When the session began, on a clock that it shares with others: the machine's, or else the date."""
+        return self.date if self.zero is None else self.zero
 
 
 def times_opening(date):
@@ -243,20 +297,35 @@ def times_opening(date):
     return TIMES_OPENING + struct.pack(">Q", date)
 
 
+def boot_times_opening(boot, date, zero):
+    """The beginning of a file of the second form: the boot, the date, and the clock of the boot at that moment."""
+    return BOOT_OPENING + boot + struct.pack(">2Q", date, zero)
+
+
 def time_entries(times):
     """An entry for each record: nanoseconds from the start on, by a clock that is never set."""
     return struct.pack(f">{len(times)}Q", *times)
 
 
-def read_times(data):
-    """The date of the start, and the time of each record. Raises Malformed if the file is cut, or a time is less than
-    the one before it, which no clock that is never set gives."""
-    if data[:8] != TIMES_OPENING or len(data) < 16:
+def clock_of(data):
+    """What a file of times of either form says. Raises Malformed if it is cut, or a time is less than the one before
+    it, which no clock that is never set gives."""
+    is_of_boot = data[:8] == BOOT_OPENING
+    head = 16 + (BOOT_BYTES + 8) * is_of_boot
+    if data[:8] not in (TIMES_OPENING, BOOT_OPENING) or len(data) < head:
         raise Malformed("the file has no times")
     if len(data) % 8:
         raise Malformed("the file ends inside an entry")
-    date, *times = struct.unpack(f">{len(data) // 8 - 1}Q", data[8:])
-    for number, (last, time) in enumerate(zip(times, times[1:]), 2):
-        if time < last:
+    times = list(struct.unpack(f">{(len(data) - head) // 8}Q", data[head:]))
+    for number, (last, found) in enumerate(zip(times, times[1:]), 2):
+        if found < last:
             raise Malformed(f"the time of record {number} is less than the one before")
-    return date, times
+    if not is_of_boot:
+        return Clock(None, *struct.unpack(">Q", data[8:16]), None, times)
+    return Clock(data[8:8 + BOOT_BYTES], *struct.unpack(">2Q", data[8 + BOOT_BYTES:head]), times)
+
+
+def read_times(data):
+    """The date of the start, and the time of each record."""
+    clock = clock_of(data)
+    return clock.date, clock.times

@@ -1,0 +1,1 @@
+../.ci/toolchain.py

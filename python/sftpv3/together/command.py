@@ -1,0 +1,186 @@
+"""The command: it reads the set, finds or reads an order, checks it, and has it judged."""
+from __future__ import annotations
+
+import argparse
+import gc
+import json
+import os
+import tempfile
+from typing import Any, Optional
+
+from sftpv3.together import checking, explaining, judging, merging, orders, profiles, searching, teaching
+from sftpv3.together.checking import Place
+from sftpv3.together.deeds import Deed
+from sftpv3.together.options import (ACCEPTED, FAILED, REFUSED, STEPS, STEPS_EACH, TOLERANCE_OF_DATES, UNDECIDED, USAGE, options, tell)
+from sftpv3.together.outside import Malformed, NotBuilt, trees
+from sftpv3.together.sets import Unfit, read_set
+from sftpv3.together.states import State
+
+STATUS = {"accepted": ACCEPTED, "refused": REFUSED, "undecided": UNDECIDED}
+
+
+class Verdict:
+    """What is printed: the verdict in a word, a sentence, and the same for programs."""
+
+    def __init__(self, word: str, text: str, **told: Any):
+        self.word, self.text, self.told = word, text, {"verdict": word, **told}
+
+    def show(self, as_json: bool) -> int:
+        print(json.dumps(self.told) if as_json else self.text, flush=True)
+        return STATUS[self.word]
+
+
+def refuse(status: int, why: object) -> int:
+    tell(why)
+    return status
+
+
+class Command:
+    """A set that is judged."""
+
+    def __init__(self, given: argparse.Namespace):
+        self.given = given
+        self.tree = read_tree(given.tree)
+        self.sessions, is_of_boot = read_set(given.folder)
+        self.deeds = [session.deeds for session in self.sessions]
+        self.count = sum(map(len, self.deeds))
+        usual = 0 if is_of_boot else TOLERANCE_OF_DATES
+        self.tolerance = 1000 * (usual if given.tolerance is None else given.tolerance)
+
+    def state(self) -> State:
+        return State(self.tree, len(self.sessions))
+
+    def run(self) -> Verdict:
+        if self.given.order:
+            return self.judge(self.read_order())
+        state = self.state()
+        for deed in (deed for deeds in self.deeds for deed in deeds):
+            deed.prepare(state, self.given.by, self.given.parts)
+        teaching.teach(self.deeds, state)
+        bound = STEPS + STEPS_EACH * self.count if self.given.steps is None else self.given.steps
+        search = searching.Search(self.deeds, state, self.tolerance, bound)
+        try:
+            found = search.run()
+        except searching.OutOfSteps:
+            return self.undecided(search)
+        if not found:
+            return self.refused(search)
+        return self.judge([Place(deed.session, part) for deed, part in whole_where_together(search.order)])
+
+    # orders
+
+    def read_order(self) -> list[Place]:
+        with open(self.given.order, "rb") as file:
+            order = orders.get(file.read())
+        if order.names != [session.name for session in self.sessions]:
+            raise Unfit(f"{self.given.order}: it is of other sessions")
+        self.given.parts.piece = order.piece
+        return order.places
+
+    def judge(self, places: list[Place]) -> Verdict:
+        """Has an order checked."""
+        piece = self.given.parts.piece
+        spans = [[merging.span_of(deed, piece) for deed in deeds] for deeds in self.deeds]
+        why = checking.first_fault(spans, places, self.tolerance)
+        if why:
+            return Verdict("undecided", f"undecided: the order is none: {why}", why=why)
+        with tempfile.TemporaryDirectory(prefix="sftpv3-together-") as folder:
+            name = self.given.write_transcript or os.path.join(folder, "merged.transcript")
+            judging.write(name, merging.merged(self.deeds, places, piece))
+            found = judging.audit(self.given.tree, name, profiles.words_of(self.given))
+        if found.status != judging.ACCEPTED:
+            return Verdict("undecided", f"undecided: sftpv3 audit does not accept the order: {found.said}",
+                           why=found.said)
+        return self.accepted(places)
+
+    def accepted(self, places: list[Place]) -> Verdict:
+        if self.given.write_order:
+            names = [session.name for session in self.sessions]
+            judging.write(self.given.write_order, [orders.put(orders.Order(names, self.given.parts.piece, places))])
+        divided = len({(place.session, number) for place, number in numbered(places) if number is not None})
+        left_out = sum(place.part == checking.LEFT_OUT for place in places)
+        text = f"accepted {self.count} requests in {len(self.sessions)} sessions"
+        text += f", {divided} of them in parts" if divided else ""
+        text += f", {left_out} without a reply left out" if left_out else ""
+        return Verdict("accepted", text, requests=self.count, sessions=len(self.sessions), in_parts=divided,
+                       left_out=left_out)
+
+    # what is told where there is no order
+
+    def named(self, deed: Deed) -> dict:
+        return {"transcript": self.sessions[deed.session].file(), "record": deed.answered_in or deed.asked_in}
+
+    def place(self, deed: Deed) -> str:
+        return f"{self.sessions[deed.session].file()} record {deed.answered_in or deed.asked_in}"
+
+    def refused(self, search: searching.Search) -> Verdict:
+        _, deed, order = search.furthest
+        found = explaining.why(self.state(), order, deed)
+        text, told = f"refused: {self.place(deed)}: {explaining.told(deed)}", self.named(deed)
+        if found.other is None:
+            text += " is right in no order of the requests that may come before it"
+            return Verdict("refused", text, **told, contradicts=None, steps=search.steps)
+        other = found.other
+        text += (f" is right before {self.place(other)} ({explaining.asked(other.request)}, "
+                 f"{explaining.answered(other)}), {explaining.before(deed, other)}")
+        return Verdict("refused", text, **told, contradicts=self.named(other), steps=search.steps)
+
+    def undecided(self, search: searching.Search) -> Verdict:
+        count, deed, _ = search.furthest
+        text = f"undecided: no order found in {search.bound} steps"
+        if deed is None:
+            return Verdict("undecided", text, steps=search.bound)
+        text += f"; the furthest was {self.place(deed)} (of {self.count} requests, {count} are placed)"
+        return Verdict("undecided", text, **self.named(deed), placed=count, steps=search.bound)
+
+
+def whole_where_together(order: list[searching.Done]) -> list[searching.Done]:
+    """The order, in which a request is whole whose parts stand one behind the other as they are numbered."""
+    found: list[searching.Done] = []
+    for deed, part in order:
+        found.append((deed, part))
+        count = len(deed.acts)
+        if part == count > 1 and found[-count:] == [(deed, at) for at in range(1, count + 1)]:
+            found[-count:] = [(deed, checking.WHOLE)]
+    return found
+
+
+def numbered(places: list[Place]) -> list[tuple[Place, Optional[int]]]:
+    """The places, with a number for the request of each that is a part."""
+    found: list[tuple[Place, Optional[int]]] = []
+    wholes: dict[int, int] = {}
+    seen: dict[int, set[int]] = {}
+    for place in places:
+        parts = seen.setdefault(place.session, set())
+        if place.part in (checking.WHOLE, checking.LEFT_OUT) or place.part in parts:
+            wholes[place.session] = wholes.get(place.session, 0) + 1
+            parts.clear()
+        is_part = place.part not in (checking.WHOLE, checking.LEFT_OUT)
+        if is_part:
+            parts.add(place.part)
+        found.append((place, wholes.get(place.session, 0) if is_part else None))
+    return found
+
+
+def read_tree(name: str) -> trees.Tree:
+    try:
+        return trees.read(name)
+    except Malformed as error:
+        raise Unfit(f"{name}: {error}") from None
+
+
+def main(about: str) -> int:
+    given = options(about)
+    gc.disable()
+    try:
+        return Command(given).run().show(given.json)
+    except Unfit as error:
+        return refuse(USAGE, error)
+    except Malformed as error:
+        return refuse(USAGE, f"{given.order}: {error}")
+    except (judging.Failed, NotBuilt) as error:
+        return refuse(FAILED, error)
+    except MemoryError:
+        return refuse(FAILED, "out of memory")
+    except OSError as error:
+        return refuse(FAILED, f"{error.filename}: {error.strerror}" if error.filename else error.strerror or error)

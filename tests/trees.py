@@ -1,0 +1,1 @@
+../models/trees.py
