@@ -47,6 +47,27 @@ def in_sequence(steps, folder):
     steps.check("one of 839 us does", together(folder, "--tolerance", "839")[0] == 0)
 
 
+def not_modelled(steps, folder):
+    """What the search does not model makes no refusal: a copy, a limit on all bytes, how deep a directory moves."""
+    late = {"a": remover(), "b": lock(1039, 1200, OPENED)}
+    copied = Session().ask(1, 9, ("EXTENDED", b"copy-data", b""), ("STATUS", 8, b"", b""))
+    sets.put(folder, {**late, "c": copied}, entries=LOCK)
+    status, said = together(folder)
+    steps.check("with a request that copies, no set is refused", status == 4 and "copy-data" in said, said)
+    sets.put(folder, late, entries=LOCK)
+    os.remove(os.path.join(folder, "set", "c.transcript"))
+    os.remove(os.path.join(folder, "set", "c.times"))
+    trees.write(trees.Tree(LOCK, limits=(*trees.USUAL, 16_777_216)), os.path.join(folder, "start.tree"))
+    status, said = together(folder)
+    steps.check("nor with a limit on the bytes of all files", status == 4 and "limit on the bytes" in said, said)
+    deep = b"/d" * 21
+    moved = Session().ask(1, 9, ("RENAME", deep, b"/e"), ABSENT)
+    sets.put(folder, {**late, "c": moved}, entries=[*LOCK, *(trees.Entry(b"/d" * at, trees.DIRECTORY)
+                                                            for at in range(1, 24))])
+    status, said = together(folder)
+    steps.check("nor where a directory moves that may be too deep", status == 4 and "deep" in said, said)
+
+
 def handles(steps, folder):
     """Both sessions have a handle of the same name, each of its own file."""
     one, other = Session(), Session()
@@ -122,4 +143,4 @@ def bounded(steps, folder):
     steps.check("a search that comes to its bound is undecided", found[0] == 4 and "in 1 steps" in found[1], found)
 
 
-TRIALS = (overlapping, in_sequence, handles, without_reply, in_parts, torn, orders, bounded)
+TRIALS = (overlapping, in_sequence, not_modelled, handles, without_reply, in_parts, torn, orders, bounded)

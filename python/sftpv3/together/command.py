@@ -8,10 +8,11 @@ import os
 import tempfile
 from typing import Any, Optional
 
-from sftpv3.together import checking, explaining, judging, merging, orders, profiles, searching, teaching
+from sftpv3.together import checking, exactness, explaining, judging, merging, orders, profiles, searching, teaching
 from sftpv3.together.checking import Place
 from sftpv3.together.deeds import Deed
-from sftpv3.together.options import (ACCEPTED, FAILED, REFUSED, STEPS, STEPS_EACH, TOLERANCE_OF_DATES, UNDECIDED, USAGE, options, tell)
+from sftpv3.together.options import (ACCEPTED, FAILED, REFUSED, STEPS, STEPS_EACH, TOLERANCE_OF_DATES, UNDECIDED,
+                                     USAGE, options, tell)
 from sftpv3.together.outside import Malformed, NotBuilt, trees
 from sftpv3.together.sets import Unfit, read_set
 from sftpv3.together.states import State
@@ -44,6 +45,7 @@ class Command:
         self.sessions, is_of_boot = read_set(given.folder)
         self.deeds = [session.deeds for session in self.sessions]
         self.count = sum(map(len, self.deeds))
+        self.unknown = exactness.left_out(self.tree, self.deeds)
         usual = 0 if is_of_boot else TOLERANCE_OF_DATES
         self.tolerance = 1000 * (usual if given.tolerance is None else given.tolerance)
 
@@ -64,7 +66,7 @@ class Command:
         except searching.OutOfSteps:
             return self.undecided(search)
         if not found:
-            return self.refused(search)
+            return self.refused(search) if self.unknown is None else self.unsure(search)
         return self.judge([Place(deed.session, part) for deed, part in whole_where_together(search.order)])
 
     # orders
@@ -124,6 +126,12 @@ class Command:
         text += (f" is right before {self.place(other)} ({explaining.asked(other.request)}, "
                  f"{explaining.answered(other)}), {explaining.before(deed, other)}")
         return Verdict("refused", text, **told, contradicts=self.named(other), steps=search.steps)
+
+    def unsure(self, search: searching.Search) -> Verdict:
+        """No order was found by a model that lacks something that the set has."""
+        _, deed, _ = search.furthest
+        return Verdict("undecided", f"undecided: no order was found, but the search does not know {self.unknown}; the "
+                       f"furthest was {self.place(deed)}", **self.named(deed), unknown=self.unknown, steps=search.steps)
 
     def undecided(self, search: searching.Search) -> Verdict:
         count, deed, _ = search.furthest
