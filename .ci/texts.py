@@ -168,7 +168,8 @@ def mistakes():
     names, crates = files(), Crates()
     pages = [it for it in names if it.endswith(".md")]
     found = [*scripts.wrong_python(names), *scripts.wrong_types(), *scripts.wrong_shell(names), *scripts.wrong_tests(),
-             *wrong_columns(names), *wrong_links(pages), *wrong_names(pages, names), *wrong_quotes(pages), *unlisted(pages),
+             *wrong_columns(names), *wrong_links(pages), *wrong_names(pages, names), *wrong_quotes(pages),
+             *unlisted(pages),
              *wrong_imports(names), *wrong_manual(), *wrong_version(),
              *(it for name in crates.lines for it in wrong_edits(crates, name))]
     count = sum(len(scripts.scripts(names, it)) for it in ("python", "sh", "bash"))

@@ -85,6 +85,8 @@ class Failing(unittest.TestCase):
 # A stand-in for `rt` whose crates are built on each other in three ways, and count how often a sum is taken.
 RT = """#!/usr/bin/env python3
 import os, sys
+from sys import path
+path.insert(0, os.path.dirname(os.path.realpath(__file__)))
 import rtlib
 def main(words):
     rtlib.TOP.stamp()

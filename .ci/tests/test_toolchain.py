@@ -46,7 +46,8 @@ class Found(unittest.TestCase):
         self.write("rtlib.py", "print('the trap was loaded')\n")
         self.write("kit/rtlib.py", "class Crate:\n    pass\n")
         self.write("kit/rt", "import os\nfrom sys import path\n"
-                             "path.insert(0, os.path.dirname(os.path.realpath(__file__)))\nimport rtlib\ndef main(words):\n    print('the kit:', *words)\n    return 5\n")
+                             "path.insert(0, os.path.dirname(os.path.realpath(__file__)))\nimport rtlib\n"
+                             "def main(words):\n    print('the kit:', *words)\n    return 5\n")
         for trap in TRAPS:
             with self.subTest(trap):
                 self.assertEqual(self.run_with(trap, str(self.room / "kit")), (5, "the kit: version\n"))
