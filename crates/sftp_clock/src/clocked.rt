@@ -366,15 +366,32 @@ impl<C: Moments + Drop> Clocked<C> {
 
     fn note_change(&mut self, tree: &Tree, ask: &Ask, touch: Touch) {
         let now = self.clock.now();
-        let table = &mut self.table;
-        match touch {
-            Touch::File(number, Change::Set(times)) => table.set_file(tree, number, times),
-            Touch::File(number, Change::Modify) => table.modify_file(tree, number, now),
-            Touch::Move(old, new) => table.rename(&old, new, now),
-            Touch::At(spot) => note_name(table, ask, spot, now),
-            Touch::Nothing => {}
-            Touch::Open(_) => {}
+        match touch.of_file() {
+            Some((number, change)) => {
+                drop(touch);
+                note_file(&mut self.table, tree, number, change, now);
+            }
+            None => note_entry(&mut self.table, ask, touch, now),
         }
+    }
+}
+
+/// A request was done that changes a file.
+fn note_file(table: &mut TimeTable, tree: &Tree, number: FileNo, change: Change, now: u32) {
+    match change {
+        Change::Set(times) => table.set_file(tree, number, times),
+        Change::Modify => table.modify_file(tree, number, now),
+    }
+}
+
+/// A request was done that changes which entries there are.
+fn note_entry(table: &mut TimeTable, ask: &Ask, touch: Touch, now: u32) {
+    match touch {
+        Touch::Move(old, new) => table.rename(&old, new, now),
+        Touch::At(spot) => note_name(table, ask, spot, now),
+        Touch::File(..) => {}
+        Touch::Nothing => {}
+        Touch::Open(_) => {}
     }
 }
 

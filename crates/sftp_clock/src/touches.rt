@@ -38,6 +38,14 @@ pub(crate) enum Touch {
 }
 
 impl Touch {
+    /// The file whose times change, and how.
+    pub(crate) fn of_file(&self) -> Option<(FileNo, Change)> {
+        match self {
+            Touch::File(number, change) => Some((*number, *change)),
+            _ => None,
+        }
+    }
+
     /// How many entries the tree had before an OPEN.
     pub(crate) fn entries_before(&self) -> Option<u32> {
         match self {
