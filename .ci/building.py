@@ -78,7 +78,8 @@ def version_source(is_proved=True):
     number = re.search(r'pub const VERSION: &str = "(.*)";', tool)[1]
     text = f"{number}{of_commit}" if is_proved else f"{number}{of_commit} {NOT_PROVED}"
     return ("//! What `--version` prints: the version, the commit and the toolchain.\n\n"
-            f'/// The version of the program.\npub(crate) const VERSION: &str = "{text}";\n')
+            "/// The version of the program.\n"
+            f'pub(crate) const VERSION: Option<&str> = Some("{text}");\n')
 
 
 class Turns:

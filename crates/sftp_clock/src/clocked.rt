@@ -253,17 +253,16 @@ impl<C: Moments + Drop> Clocked<C> {
     /// Notes what an OPEN did to times that may have made a file, or truncated one.
     #[inline(never)]
     fn note_open<T: HandleTable>(&mut self, session: &Session<T>, ask: &Ask, handle: &[u8]) {
-        let touch = self.touch;
-        match (ask, &touch) {
+        match (ask, self.touch.entries_before()) {
             (
                 Ask::Open {
                     path,
                     pflags,
                     attrs,
                 },
-                Touch::Open(before),
+                Some(before),
             ) => {
-                if session.tree().entry_count() > *before {
+                if session.tree().entry_count() > before {
                     let follow = !has(*pflags, OpenFlags::EXCL);
                     self.note_made(session, path.as_slice(), follow, attrs.times, handle);
                 } else if has(*pflags, OpenFlags::TRUNC) {
@@ -332,14 +331,9 @@ impl<C: Moments + Drop> Clocked<C> {
     /// Notes what a request did to times, as it was found before.
     #[inline(never)]
     fn note_found(&mut self, tree: &Tree, ask: &Ask) {
-        let touch = self.touch;
-        match (ask, &touch) {
-            (Ask::Setstat { path, attrs }, Touch::Nothing) => {
-                self.note_set(tree, path.as_slice(), attrs.times)
-            }
-            (_, Touch::Nothing) => {}
-            (_, Touch::Open(_)) => {}
-            (_, touch) => self.note_change(tree, ask, touch),
+        match mem::replace(&mut self.touch, Touch::Nothing) {
+            Touch::Nothing => self.note_set(tree, ask),
+            touch => self.note_change(tree, ask, touch),
         }
     }
 
@@ -360,24 +354,44 @@ impl<C: Moments + Drop> Clocked<C> {
     }
 
     /// A SETSTAT gave what a path leads to these times, if it gave some.
-    fn note_set(&mut self, tree: &Tree, path: &[u8], given: Given) {
-        if let Some(pair) = given {
-            let _ = self.clock.now();
-            self.table.set_path(tree, path, Times::given(pair));
+    fn note_set(&mut self, tree: &Tree, ask: &Ask) {
+        if let Ask::Setstat { path, attrs } = ask {
+            if let Some(pair) = attrs.times {
+                let _ = self.clock.now();
+                self.table
+                    .set_path(tree, path.as_slice(), Times::given(pair));
+            }
         }
     }
 
-    fn note_change(&mut self, tree: &Tree, ask: &Ask, touch: &Touch) {
+    fn note_change(&mut self, tree: &Tree, ask: &Ask, touch: Touch) {
         let now = self.clock.now();
-        let table = &mut self.table;
-        match touch {
-            Touch::File(number, Change::Set(times)) => table.set_file(tree, *number, *times),
-            Touch::File(number, Change::Modify) => table.modify_file(tree, *number, now),
-            Touch::Move(old, new) => table.rename(*old, *new, now),
-            Touch::At(spot) => note_name(table, ask, *spot, now),
-            Touch::Nothing => {}
-            Touch::Open(_) => {}
+        match touch.of_file() {
+            Some((number, change)) => {
+                drop(touch);
+                note_file(&mut self.table, tree, number, change, now);
+            }
+            None => note_entry(&mut self.table, ask, touch, now),
         }
+    }
+}
+
+/// A request was done that changes a file.
+fn note_file(table: &mut TimeTable, tree: &Tree, number: FileNo, change: Change, now: u32) {
+    match change {
+        Change::Set(times) => table.set_file(tree, number, times),
+        Change::Modify => table.modify_file(tree, number, now),
+    }
+}
+
+/// A request was done that changes which entries there are.
+fn note_entry(table: &mut TimeTable, ask: &Ask, touch: Touch, now: u32) {
+    match touch {
+        Touch::Move(old, new) => table.rename(&old, new, now),
+        Touch::At(spot) => note_name(table, ask, spot, now),
+        Touch::File(..) => {}
+        Touch::Nothing => {}
+        Touch::Open(_) => {}
     }
 }
 
@@ -386,8 +400,8 @@ fn note_name(table: &mut TimeTable, ask: &Ask, spot: Spot, now: u32) {
     match ask {
         Ask::Mkdir { attrs, .. } => table.make(spot, Times::given_or(attrs.times, now), now),
         Ask::Symlink { .. } => table.make_link(spot, now),
-        Ask::Hardlink { .. } => table.name(spot, now),
-        _ => table.remove(spot, now),
+        Ask::Hardlink { .. } => table.name(&spot, now),
+        _ => table.remove(&spot, now),
     }
 }
 

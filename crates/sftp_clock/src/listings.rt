@@ -183,12 +183,11 @@ fn child_at(
     directory: PlaceNo,
     name: &[u8],
 ) -> Result<Child, NoMemory> {
-    let spot = directory.spot(name);
-    let Some(name) = Name::from_slice(tree.allocator(), name)? else {
+    let Some(last) = Name::from_slice(tree.allocator(), name)? else {
         return Ok(Child::Other);
     };
-    place.push(name)?;
+    place.push(last)?;
     let file = tree.file_at(place.as_slice());
     place.pop();
-    Ok(table.child(spot, file))
+    Ok(table.child(directory, name, file))
 }

@@ -1,7 +1,7 @@
 //! The times of directories and links, by their places.
 //!
-//! Each has a number, and is found by a key, which is made of the number of the directory that it is in and of its name
-//! there. So what is below a directory moves with it, however much that is.
+//! Each has a number and an entry, and is found by its name in the entry of the directory that it is in. So what is
+//! below a directory moves with it, however much that is.
 
 use crate::files::FileAt;
 use crate::times::Times;
@@ -9,8 +9,7 @@ use sftp_path::{Name, Parts};
 use sftp_tree::NoMemory;
 use slab::Slab;
 use std::alloc::Global;
-use std::collections::HashMap;
-use std::hash::{DefaultHasher, Hasher};
+use std::collections::BTreeMap;
 
 /// The number of the root.
 const ROOT: u64 = 0;
@@ -23,11 +22,11 @@ pub(crate) struct PlaceNo {
     number: u64,
 }
 
-/// A name in a directory, by its key.
-#[derive(Clone, Copy)]
+/// A name in a directory.
+#[derive(Drop)]
 pub(crate) struct Spot {
     pub(crate) directory: PlaceNo,
-    key: u64,
+    name: Vec<u8>,
 }
 
 /// What stands at a name of a directory.
@@ -49,6 +48,8 @@ struct Entry {
     is_link: bool,
     /// Whether a path that is kept led to it, or past it.
     is_passed: bool,
+    /// Where the entries are of the directories and links in the directory, by their names.
+    places: BTreeMap<Vec<u8>, usize>,
     /// What stands at each name of the directory, in the order of the names, if that was looked up.
     children: Vec<Child>,
     /// When that was.
@@ -65,29 +66,24 @@ impl PlaceNo {
             number: ROOT,
         }
     }
-
-    /// A name in this directory.
-    pub(crate) fn spot(self, name: &[u8]) -> Spot {
-        Spot {
-            directory: self,
-            key: key_of(self.number, name),
-        }
-    }
 }
 
 impl Spot {
-    /// Whether both are one name in one directory.
-    pub(crate) fn is(self, other: Spot) -> bool {
-        self.key == other.key
+    /// A name in a directory.
+    ///
+    /// # Errors
+    ///
+    /// `NoMemory` if memory runs out.
+    pub(crate) fn new(alloc: Global, directory: PlaceNo, name: &[u8]) -> Result<Spot, NoMemory> {
+        let name = Vec::from_slice(alloc, name)?;
+        Ok(Spot { directory, name })
     }
-}
 
-/// The key of a name in the directory of a number, by SipHash. Two names of one key are not to be found in practice.
-fn key_of(directory: u64, name: &[u8]) -> u64 {
-    let mut hasher = DefaultHasher::new();
-    hasher.write_u64(directory);
-    hasher.write(name);
-    hasher.finish()
+    /// Whether both are one name in one directory.
+    pub(crate) fn is(&self, other: &Spot) -> bool {
+        self.directory.number == other.directory.number
+            && self.name.as_slice() == other.name.as_slice()
+    }
 }
 
 impl Entry {
@@ -97,6 +93,7 @@ impl Entry {
             times: None,
             is_link: false,
             is_passed: false,
+            places: BTreeMap::new(alloc),
             children: Vec::new(alloc),
             epoch: 0,
             shown: Vec::new(alloc),
@@ -124,7 +121,6 @@ pub(crate) struct PlaceTimes {
     root: Entry,
     /// Those below it.
     entries: Slab<Entry>,
-    by_key: HashMap<u64, usize>,
     /// The number that the next entry gets.
     next: u64,
     /// What was looked up before this one counts no more.
@@ -138,7 +134,6 @@ impl PlaceTimes {
             alloc,
             root: Entry::new(alloc, ROOT),
             entries: Slab::new(alloc),
-            by_key: HashMap::new(alloc),
             next: ROOT + 1,
             epoch: 0,
         }
@@ -204,17 +199,25 @@ impl PlaceTimes {
         }
     }
 
-    /// What stands at a name, if it has an entry.
-    pub(crate) fn find(&self, spot: Spot) -> Option<PlaceNo> {
-        let at = *self.by_key.get(&spot.key)?;
+    /// Where the entry is of what stands at a name of a directory, if it has one.
+    fn seek(&self, directory: PlaceNo, name: &[u8]) -> Option<usize> {
+        match self.entry(directory)?.places.get(name) {
+            Some(at) => Some(*at),
+            None => None,
+        }
+    }
+
+    /// What stands at a name of a directory, if it has an entry.
+    fn find(&self, directory: PlaceNo, name: &[u8]) -> Option<PlaceNo> {
+        let at = self.seek(directory, name)?;
         let number = self.entries.get(at)?.number;
         Some(PlaceNo { at, number })
     }
 
     /// What stands at a name of a directory.
-    pub(crate) fn child(&self, spot: Spot) -> Child {
-        match self.by_key.get(&spot.key) {
-            Some(at) => Child::Place(*at),
+    pub(crate) fn child(&self, directory: PlaceNo, name: &[u8]) -> Child {
+        match self.seek(directory, name) {
+            Some(at) => Child::Place(at),
             None => Child::Other,
         }
     }
@@ -223,24 +226,52 @@ impl PlaceTimes {
     ///
     /// # Errors
     ///
-    /// `NoMemory` if memory runs out.
+    /// `NoMemory` if memory runs out, or ran out for the entry of the directory.
     pub(crate) fn make(&mut self, spot: Spot) -> Result<PlaceNo, NoMemory> {
-        match self.find(spot) {
+        match self.find(spot.directory, spot.name.as_slice()) {
             Some(place) => Ok(place),
             None => self.add(spot),
         }
     }
 
+    /// What stands at a name of a directory, which gets an entry if it has none.
+    fn make_in(&mut self, directory: PlaceNo, name: &[u8]) -> Result<PlaceNo, NoMemory> {
+        match self.find(directory, name) {
+            Some(place) => Ok(place),
+            None => self.add(Spot::new(self.alloc, directory, name)?),
+        }
+    }
+
     fn add(&mut self, spot: Spot) -> Result<PlaceNo, NoMemory> {
         let number = self.next;
+        let directory = spot.directory;
         let at = self.entries.insert(Entry::new(self.alloc, number))?;
-        if self.by_key.insert(spot.key, at).is_err() {
+        if !self.name_entry(spot, at) {
             self.entries.try_remove(at);
             return Err(NoMemory);
         }
         self.next = number.wrapping_add(1);
-        self.forget_children(spot.directory);
+        self.forget_children(directory);
         Ok(PlaceNo { at, number })
+    }
+
+    /// Gives the entry there a name. Returns whether there was memory for it.
+    fn name_entry(&mut self, spot: Spot, at: usize) -> bool {
+        let Spot { directory, name } = spot;
+        match self.entry_mut(directory) {
+            Some(entry) => entry.places.insert(name, at).is_ok(),
+            None => {
+                drop(name);
+                false
+            }
+        }
+    }
+
+    /// Takes a name from its entry. Returns where that is.
+    fn unname(&mut self, spot: &Spot) -> Option<usize> {
+        self.entry_mut(spot.directory)?
+            .places
+            .remove(spot.name.as_slice())
     }
 
     /// The directory to which these names lead. It and those above it get entries if they have none, and paths to them
@@ -252,7 +283,7 @@ impl PlaceTimes {
     pub(crate) fn reach(&mut self, names: &[Name]) -> Result<PlaceNo, NoMemory> {
         let mut place = PlaceNo::root();
         for name in names {
-            place = self.make(place.spot(name.as_slice()))?;
+            place = self.make_in(place, name.as_slice())?;
             self.mark_passed(place);
         }
         Ok(place)
@@ -262,7 +293,7 @@ impl PlaceTimes {
     pub(crate) fn get_by(&self, names: &[Name]) -> Option<Times> {
         let mut place = PlaceNo::root();
         for name in names {
-            place = self.find(place.spot(name.as_slice()))?;
+            place = self.find(place, name.as_slice())?;
         }
         self.get(place)
     }
@@ -271,7 +302,7 @@ impl PlaceTimes {
     pub(crate) fn get_at(&self, path: &[u8]) -> Option<Times> {
         let mut place = PlaceNo::root();
         for name in Parts::new(path) {
-            place = self.find(place.spot(name))?;
+            place = self.find(place, name)?;
         }
         self.get(place)
     }
@@ -284,14 +315,14 @@ impl PlaceTimes {
     pub(crate) fn make_at(&mut self, path: &[u8]) -> Result<PlaceNo, NoMemory> {
         let mut place = PlaceNo::root();
         for name in Parts::new(path) {
-            place = self.make(place.spot(name))?;
+            place = self.make_in(place, name)?;
         }
         Ok(place)
     }
 
     /// Forgets what stood at a name. Returns whether a path that is kept may lead over it.
-    pub(crate) fn forget(&mut self, spot: Spot) -> bool {
-        match self.by_key.remove(&spot.key) {
+    pub(crate) fn forget(&mut self, spot: &Spot) -> bool {
+        match self.unname(spot) {
             Some(at) => self.drop_entry(at),
             None => false,
         }
@@ -306,9 +337,9 @@ impl PlaceTimes {
 
     /// What was at the old name, with all below it, is at the new one; what was there is forgotten, and both are if
     /// memory runs out. Returns whether a path that is kept may lead over one of them.
-    pub(crate) fn rename(&mut self, old: Spot, new: Spot) -> bool {
-        let is_over = self.forget(new);
-        match self.by_key.remove(&old.key) {
+    pub(crate) fn rename(&mut self, old: &Spot, new: Spot) -> bool {
+        let is_over = self.forget(&new);
+        match self.unname(old) {
             Some(at) => self.put(new, at) || is_over,
             None => is_over,
         }
@@ -316,7 +347,7 @@ impl PlaceTimes {
 
     /// Puts the entry there at a name that has none.
     fn put(&mut self, spot: Spot, at: usize) -> bool {
-        if self.by_key.insert(spot.key, at).is_err() {
+        if !self.name_entry(spot, at) {
             self.entries.try_remove(at);
             return true;
         }

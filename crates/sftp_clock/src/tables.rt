@@ -12,9 +12,10 @@ use std::alloc::Global;
 /// The times of the entries of a tree: of files by their numbers, of directories and links by their places. What was
 /// given no times, and has none in the tree file of the start, has those of the start.
 ///
-/// It takes some 60 bytes for each file that was given times, and some 120 for each directory and link that was, for
-/// each directory above one or on a path that is kept, and for each link of the start; 40 for each name in a directory
-/// that was listed since its names changed. Some 16,000 paths of at most 512 bytes are kept with what they lead to.
+/// It takes some 60 bytes for each file that was given times, and some 230 for each directory and link that was, for
+/// each directory above one or on a path that is kept, and for each link of the start, and 430 more if it is the only
+/// such one in its directory; 40 for each name in a directory that was listed since its names changed. Some 16,000 paths
+/// of at most 512 bytes are kept with what they lead to.
 #[derive(Drop)]
 pub struct TimeTable {
     files: FileTimes,
@@ -284,7 +285,7 @@ impl TimeTable {
     pub(crate) fn spot(&mut self, tree: &Tree, path: &[u8]) -> Result<Option<Spot>, NoMemory> {
         match split(path) {
             Some((above, name)) => match self.directory(tree, above)? {
-                Some(directory) => Ok(Some(directory.spot(name))),
+                Some(directory) => Ok(Some(Spot::new(tree.allocator(), directory, name)?)),
                 None => Ok(None),
             },
             None => self.walk_to_spot(tree, path),
@@ -293,16 +294,16 @@ impl TimeTable {
 
     fn walk_to_spot(&mut self, tree: &Tree, path: &[u8]) -> Result<Option<Spot>, NoMemory> {
         match end_of(tree, path, false)? {
-            Some(end) => self.spot_by(end.names.as_slice()),
+            Some(end) => self.spot_by(tree.allocator(), end.names.as_slice()),
             None => Ok(None),
         }
     }
 
-    fn spot_by(&mut self, names: &[Name]) -> Result<Option<Spot>, NoMemory> {
+    fn spot_by(&mut self, alloc: Global, names: &[Name]) -> Result<Option<Spot>, NoMemory> {
         match names.split_last() {
             Some((name, above)) => {
                 let directory = self.places.reach(above)?;
-                Ok(Some(directory.spot(name.as_slice())))
+                Ok(Some(Spot::new(alloc, directory, name.as_slice())?))
             }
             None => Ok(None),
         }
@@ -379,14 +380,16 @@ impl TimeTable {
 
     /// A directory was made.
     pub(crate) fn make(&mut self, spot: Spot, times: Times, now: u32) {
+        let directory = spot.directory;
         if let Ok(place) = self.places.make(spot) {
             self.set_place(place, times);
         }
-        self.modify_names(spot.directory, now);
+        self.modify_names(directory, now);
     }
 
     /// A link was made.
     pub(crate) fn make_link(&mut self, spot: Spot, now: u32) {
+        let directory = spot.directory;
         self.may_have_links = true;
         self.ways.forget_all();
         match self.places.make(spot) {
@@ -396,7 +399,7 @@ impl TimeTable {
             }
             Err(_) => self.knows_links = false,
         }
-        self.modify_names(spot.directory, now);
+        self.modify_names(directory, now);
     }
 
     /// A file was made by an OPEN of this path.
@@ -408,24 +411,25 @@ impl TimeTable {
     }
 
     /// A file got a further name.
-    pub(crate) fn name(&mut self, spot: Spot, now: u32) {
+    pub(crate) fn name(&mut self, spot: &Spot, now: u32) {
         self.may_have_two_names = true;
         self.modify_names(spot.directory, now);
     }
 
     /// What stood at a name was removed.
-    pub(crate) fn remove(&mut self, spot: Spot, now: u32) {
+    pub(crate) fn remove(&mut self, spot: &Spot, now: u32) {
         let is_over = self.places.forget(spot);
         self.forget_ways(is_over);
         self.modify_names(spot.directory, now);
     }
 
     /// What stood at a name is at another one now, and what stood there is gone.
-    pub(crate) fn rename(&mut self, old: Spot, new: Spot, now: u32) {
+    pub(crate) fn rename(&mut self, old: &Spot, new: Spot, now: u32) {
+        let directory = new.directory;
         let is_over = self.places.rename(old, new);
         self.forget_ways(is_over);
         self.modify_names(old.directory, now);
-        self.modify_names(new.directory, now);
+        self.modify_names(directory, now);
     }
 
     /// A name is gone: paths to files may lead elsewhere, and all paths if some may lead over it.
@@ -462,10 +466,10 @@ impl TimeTable {
     }
 
     /// What stands at a name of a directory, which may be a name of this file.
-    pub(crate) fn child(&self, spot: Spot, file: Option<FileNo>) -> Child {
+    pub(crate) fn child(&self, directory: PlaceNo, name: &[u8], file: Option<FileNo>) -> Child {
         match file {
             Some(number) => Child::File(self.files.find(number)),
-            None => self.places.child(spot),
+            None => self.places.child(directory, name),
         }
     }
 }

@@ -23,7 +23,7 @@ pub(crate) enum Change {
 }
 
 /// What a request does to times if it is done.
-#[derive(Clone, Copy)]
+#[derive(Drop)]
 pub(crate) enum Touch {
     /// Nothing, or what is found when it is done.
     Nothing,
@@ -35,6 +35,24 @@ pub(crate) enum Touch {
     Move(Spot, Spot),
     /// It may make a file: if the tree has more entries than these.
     Open(u32),
+}
+
+impl Touch {
+    /// The file whose times change, and how.
+    pub(crate) fn of_file(&self) -> Option<(FileNo, Change)> {
+        match self {
+            Touch::File(number, change) => Some((*number, *change)),
+            _ => None,
+        }
+    }
+
+    /// How many entries the tree had before an OPEN.
+    pub(crate) fn entries_before(&self) -> Option<u32> {
+        match self {
+            Touch::Open(count) => Some(*count),
+            _ => None,
+        }
+    }
 }
 
 /// What a request does to times if it is done.
@@ -156,8 +174,16 @@ fn moved(
         table.spot(tree, old.as_slice())?,
         table.spot(tree, new.as_slice())?,
     ) {
-        (Some(old), Some(new)) if !old.is(new) => Ok(Touch::Move(old, new)),
+        (Some(old), Some(new)) => Ok(move_between(old, new)),
         _ => Ok(Touch::Nothing),
+    }
+}
+
+fn move_between(old: Spot, new: Spot) -> Touch {
+    if old.is(&new) {
+        Touch::Nothing
+    } else {
+        Touch::Move(old, new)
     }
 }
 

@@ -1,4 +1,5 @@
-//! Audits of streams, and the files that tests share.
+//! Audits of events and of streams, and the files that tests share.
+mod fed;
 mod streamed;
 
 /// The opening, an INIT of version 3 and a VERSION 3, both without extensions.

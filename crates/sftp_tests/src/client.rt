@@ -125,7 +125,7 @@ fn sends_three(alloc: Global, pairing: &mut Pairing) -> bool {
 }
 
 /// The reply of these bytes.
-fn reply_of(alloc: Global, bytes: &[u8]) -> Option<Reply> {
+pub(crate) fn reply_of(alloc: Global, bytes: &[u8]) -> Option<Reply> {
     match front(alloc, bytes, Side::Server) {
         Ok(Some((Packet::Reply(reply), _))) => Some(reply),
         other => {

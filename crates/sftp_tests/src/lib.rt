@@ -7,6 +7,8 @@
 //! that fails.
 #![tactic(auto)]
 
+#[cfg(test)]
+mod agreeing;
 pub mod answered;
 #[cfg(test)]
 mod audit;
@@ -31,6 +33,8 @@ pub mod strict;
 mod transcript;
 #[cfg(test)]
 mod treefile;
+#[cfg(test)]
+mod trees;
 #[cfg(test)]
 mod walks;
 #[cfg(test)]

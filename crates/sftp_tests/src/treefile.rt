@@ -9,7 +9,8 @@ const FILE: &[u8] =
 \0\0\0\x02/gH\0\0\0\x02\0\0\0\x02/lL\0\0\0\x03d/f";
 
 /// The file of the root alone, with the highest limits.
-const RAISED: &[u8] = b"SFTREE02\0\0\0\x01/\0\0\0\0\0\0\0\0\0\x10\0\0\x04\0\0\0\0\x01\0\0\0\0\x04\0\
+pub(crate) const RAISED: &[u8] =
+    b"SFTREE02\0\0\0\x01/\0\0\0\0\0\0\0\0\0\x10\0\0\x04\0\0\0\0\x01\0\0\0\0\x04\0\
 \0\0\0\0\0\0\0\0\0\0\0\0\0\0\x01\xed";
 
 /// The file of the root alone, with the most of each limit (docs/FORMATS.md).

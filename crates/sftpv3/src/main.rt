@@ -31,14 +31,18 @@ fn run(rt: &HostRuntime) -> io::Result<u8>
     let mut output = Output::new(rt.alloc(), rt.stdout())?;
     let mut input = rt.stdin();
     let mut errors = rt.stderr();
-    Ok(sftp_tool::run_versioned(
-        rt,
-        VERSION,
-        words.as_slice(),
-        &mut input,
-        &mut output,
-        &mut errors,
-    ))
+    let words = words.as_slice();
+    Ok(match VERSION {
+        None => sftp_tool::run(rt, words, &mut input, &mut output, &mut errors),
+        Some(version) => sftp_tool::run_versioned(
+            rt,
+            version,
+            words,
+            &mut input,
+            &mut output,
+            &mut errors,
+        ),
+    })
 }
 
 /// The exit status of the process: that of the run, or 2 or 3 if it did not start.

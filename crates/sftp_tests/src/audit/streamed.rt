@@ -2,7 +2,9 @@
 use super::{BLANK, WITH_A};
 use crate::streams::Input;
 use crate::transcript::{SESSION, record_at};
-use sftp_audit::{Accepted, AuditError, Refusal, TranscriptError, audit_stream};
+use sftp_audit::{
+    Accepted, AcceptedCut, AuditError, Refusal, TranscriptError, audit_cut_stream, audit_stream,
+};
 use sftp_transcript::{Reader, Tally};
 use std::alloc::Global;
 
@@ -63,4 +65,40 @@ fn judges_what_was_read(rt: HostRuntime) {
     let malformed = said(rt.alloc(), b"SFTREE0", Input::torn(TWICE));
     let accepted = said(rt.alloc(), BLANK, Input::bytes(SESSION));
     assert!(rt; refused == (b'u', 5) && malformed == (b't', 0) && accepted == (b'a', 1));
+}
+
+fn judged_cut(alloc: Global, transcript: Input) -> Result<AcceptedCut, AuditError> {
+    match Reader::new(alloc, Tally::new(transcript)) {
+        Ok(mut records) => {
+            let judged = audit_cut_stream(alloc, BLANK, &mut records);
+            drop(records);
+            judged
+        }
+        Err(error) => Err(AuditError::from(error)),
+    }
+}
+
+/// How many requests a session has that is cut after so many bytes, how many are not settled, how many have no reply,
+/// and whether `/a` was made; `None` if it is not accepted.
+fn cut(alloc: Global, count: usize) -> Option<(u64, usize, usize, bool)> {
+    let transcript = Input::bytes(SESSION.get(..count).unwrap_or(SESSION));
+    match judged_cut(alloc, transcript) {
+        Ok(
+            AcceptedCut {
+                tree,
+                requests,
+                unsettled,
+                unanswered,
+            },
+        ) => Some((requests, unsettled, unanswered, tree.as_slice() == WITH_A)),
+        Err(_) => None,
+    }
+}
+
+/// The request is settled by its reply, which ends the session.
+#[test]
+fn judges_what_is_settled(rt: HostRuntime) {
+    let waits = cut(rt.alloc(), 48);
+    let ends = cut(rt.alloc(), SESSION.len());
+    assert!(rt; waits == Some((1, 1, 1, false)) && ends == Some((1, 0, 0, true)));
 }
