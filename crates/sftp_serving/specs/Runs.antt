@@ -12,7 +12,7 @@ use Rattle.sftp_server.specs.declared.ends.Ended.{Ended}
 use Rattle.sftp_server.specs.declared.ends.Ended.TheVariants as ends
 use Rattle.sftp_server.specs.declared.ends.SessionEnd.{SessionEnd}
 use Rattle.sftp_server.specs.declared.ends.Stream.{Stream}
-use Rattle.sftp_server.specs.Served.{StreamBytes, ServesFrom, announcing, our_version}
+use Rattle.sftp_server.specs.Served.{StreamBytes, stream_bytes, ServesFrom, announcing, our_version}
 use Rattle.sftp_server.specs.Left.{LeavesFrom}
 use Rattle.sftp_files.specs.declared.messages.Ending.{Ending}
 use Rattle.sftp_files.specs.declared.messages.Ending.TheVariants as endings
@@ -41,6 +41,14 @@ pub record ServesFreely (is_free : Bool) (start : Tree) (past now : StreamBytes)
   pub usual : is_free ≡ false → version ≡ our_version
   pub served : ServesFrom (announcing start version) past now end.ended
   pub left : LeavesFrom (announcing start version) past now end.ended end.left
+
+-- The same over streams that have these bytes before: what they have after is of the session, but not said of the
+-- streams. The record has these bytes after.
+pub record ServesTo (is_free : Bool) (start : Tree) (past : StreamBytes) (logged : Option (List ℕ))
+    (end : SessionEnd) : Type 0 where
+  pub left : Option (List ℕ)
+  pub written : Option (List ℕ)
+  pub served : ServesFreely is_free start past (stream_bytes left written logged) end
 
 -- ---- the tree at the end
 
@@ -123,7 +131,7 @@ pub record IsRun (wish : Wish) (limit : Option ℕ) (file : Option (List ℕ)) (
   pub has_times : Bool
   pub untimed : wish.has_times ≡ false → has_times ≡ false
   pub started : StartsFrom limit file start
-  pub served : ServesFreely wish.is_free start past.streams now.streams end
+  pub served : ServesTo wish.is_free start past.streams now.streams.logged end
   pub saved : Saves has_times (reported end) past.saved now.saved
   pub said : IfOk result (IsEnding (close_of is_over end.ended))
   pub kept : OnOk result (IsKeptIn now.saved wish.saves has_times (reported end))

@@ -1,5 +1,5 @@
 //! Who answers the requests of a session.
-ghost use Rattle.std.specs.Prelude.{◌≡◌, None, true, false, is_some, IfSome};
+ghost use Rattle.std.specs.Prelude.{◌≡◌, None, true, false, is_some, IfSome, IfOk};
 ghost use Rattle.sftp_packets.specs.Packets.{HasSpelling};
 ghost use Rattle.sftp_transcript.specs.Transcript.{IsVersion};
 ghost use Rattle.sftp_server.specs.Served.{stream_bytes, IsUnused, Serves};
@@ -39,7 +39,9 @@ impl Answers {
         rt: &R,
         options: &ServeOptions<'a>,
         style: Style,
-    ) -> Result<Answers, Failure<'a>> {
+    ) -> Result<Answers, Failure<'a>>
+        ensures { IfOk result (λ answers. answers.style ≡ style) }
+    {
         Ok(Answers {
             style,
             recorded: Recorded::new(rt, options.replay)?,
@@ -185,28 +187,34 @@ fn serve_proposing<R: Source, W: Sink, L: Sink, S: Schedule>(
 {
     let version = free_version(tree.allocator(), &answers.style);
     let mut answerer = proposing(answers);
-    let end = match &version {
-        Some(version) => serve_announcing::<R, W, L, S, GivenTable, Proposing>(
-            tree,
-            reader,
-            writer,
-            log,
-            schedule,
-            &mut answerer,
-            version,
-        ),
-        None => serve_as::<R, W, L, S, GivenTable, Proposing>(
-            tree,
-            reader,
-            writer,
-            log,
-            schedule,
-            &mut answerer,
-        ),
-    };
-    drop(answerer);
-    drop(version);
-    end
+    match version {
+        Some(version) => {
+            let end = serve_announcing::<R, W, L, S, GivenTable, Proposing>(
+                tree,
+                reader,
+                writer,
+                log,
+                schedule,
+                &mut answerer,
+                &version,
+            );
+            drop(answerer);
+            drop(version);
+            end
+        }
+        None => {
+            let end = serve_as::<R, W, L, S, GivenTable, Proposing>(
+                tree,
+                reader,
+                writer,
+                log,
+                schedule,
+                &mut answerer,
+            );
+            drop(answerer);
+            end
+        }
+    }
 }
 
 /// The VERSION of a session of this style, if it may be any.

@@ -1,7 +1,7 @@
 //! The subcommand `serve`: the session of one client over a pair of streams.
 ghost use Rattle.std.specs.Prelude.{◌≡◌, None, is_some, IfOk};
 ghost use Rattle.sftp_server.specs.Served.{stream_bytes, IsUnused};
-ghost use Rattle.sftp_serving.specs.Runs.{Runs, ServesFreely, wish, run_bytes};
+ghost use Rattle.sftp_serving.specs.Runs.{Runs, ServesTo, wish, run_bytes};
 
 use crate::answers::{Answers, served};
 use crate::concluding::conclude;
@@ -13,9 +13,9 @@ use crate::summaries::Traffic;
 use sftp_audit::keep_freed_memory;
 use sftp_clock::TimeTable;
 use sftp_commands::{is_lost, refuse_terminal};
-use sftp_files::{Ending, Failure, Meter, ServeOptions, System, require_fit};
+use sftp_files::{Ending, Failure, Flow, Meter, ServeOptions, System, require_fit};
 use sftp_server::{InOrder, Schedule, SessionEnd, Shuffle, Step};
-use sftp_transcript::{Tally, Writer};
+use sftp_transcript::{Sink, Tally, Writer};
 use sftp_tree::Tree;
 use sftp_vary::Style;
 use sftp_wire::Request;
@@ -132,7 +132,9 @@ impl Conduct {
         rt: &R,
         options: &ServeOptions<'a>,
         style: Style,
-    ) -> Result<Conduct, Failure<'a>> {
+    ) -> Result<Conduct, Failure<'a>>
+        ensures { IfOk result (λ conduct. conduct.answers.style ≡ style) }
+    {
         let order = Order::new(rt, options)?;
         match Answers::new(rt, options, style) {
             Ok(answers) => Ok(Conduct { order, answers }),
@@ -195,7 +197,8 @@ struct Finish<L> {
 }
 
 /// Serves a session from this tree.
-// Slow to prove: each stream is put together of layers, and taken apart again.
+// The layers of its streams are put on and taken off one in each function: a proof of all at once is too long.
+#[tactic(auto, using(crate::proofs::RunLaws::over_record))]
 fn session<C: Clock, I: Read, O: Write, E: Write, L: Write + Drop>(
     clock: &C,
     tree: Tree,
@@ -209,36 +212,18 @@ fn session<C: Clock, I: Read, O: Write, E: Write, L: Write + Drop>(
     errors: &mut E,
 ) -> Finish<L>
     requires { IsUnused log }
-    ensures served { ServesFreely (is_some conduct.answers.style.variation) tree
+    ensures served { ServesTo (is_some conduct.answers.style.variation) tree
         (stream_bytes (I.remaining input.old) (O.contents output.old) log.bytes)
-        (stream_bytes (I.remaining input.new) (O.contents output.new) (L.contents result.place)) result.end }
+        (L.contents result.place) result.end }
     ensures times { is_some result.times ≡ is_some times }
 {
     let Conduct { mut order, answers } = conduct;
-    let mut reader = Tally::new(Counted::new(input));
-    let mut writer = Tally::new(Counted::new(Output {
-        output,
-        errors,
-        meter,
-        cuts: answers.style.cuts(),
-        is_due: is_verbose,
-    }));
-    let (end, times) = served(
-        clock,
-        tree,
-        times,
-        &mut reader,
-        &mut writer,
-        &mut log,
-        &mut order,
-        answers,
+    let (end, times, read, written) = served_to(
+        clock, tree, times, input, output, errors, meter, is_verbose, &mut log, &mut order, answers,
     );
-    let (input, read) = reader.into_inner().into_parts();
-    let (outlet, written) = writer.into_inner().into_parts();
     let noted = log.into_sink().into_inner();
     let requests = noted.request_count();
     let (place, logged) = noted.into_parts();
-    let Output { output, meter, .. } = outlet;
     let traffic = Traffic {
         requests,
         input: read,
@@ -248,15 +233,77 @@ fn session<C: Clock, I: Read, O: Write, E: Write, L: Write + Drop>(
         parting: order.parting(),
     };
     drop(order);
-    // No effect at run time. The proof reads from these uses what is left and what was written.
-    let _ = &*input;
-    let _ = &*output;
     Finish {
         end,
         times,
         place,
         traffic,
     }
+}
+
+/// Serves a session over this input and output. Returns also what was read and written.
+fn served_to<C: Clock, I: Read, O: Write, E: Write, L: Sink, S: Schedule>(
+    clock: &C,
+    tree: Tree,
+    times: Option<TimeTable>,
+    input: &mut I,
+    output: &mut O,
+    errors: &mut E,
+    meter: &mut Meter,
+    is_verbose: bool,
+    log: &mut Writer<L>,
+    order: &mut S,
+    answers: Answers,
+) -> (SessionEnd, Option<TimeTable>, Flow, Flow)
+    requires { IsUnused log.old }
+    ensures served { ServesTo (is_some answers.style.variation) tree
+        (stream_bytes (I.remaining input.old) (O.contents output.old) log.old.bytes)
+        log.new.bytes result.0 }
+    ensures times { is_some result.1 ≡ is_some times }
+{
+    let mut writer = Tally::new(Counted::new(Output {
+        output,
+        errors,
+        meter,
+        cuts: answers.style.cuts(),
+        is_due: is_verbose,
+    }));
+    let (end, times, read) = served_from(
+        clock,
+        tree,
+        times,
+        input,
+        &mut writer,
+        log,
+        order,
+        answers,
+    );
+    let (outlet, written) = writer.into_inner().into_parts();
+    drop(outlet);
+    (end, times, read, written)
+}
+
+/// Serves a session over this input. Returns also what was read.
+fn served_from<C: Clock, I: Read, W: Sink, L: Sink, S: Schedule>(
+    clock: &C,
+    tree: Tree,
+    times: Option<TimeTable>,
+    input: &mut I,
+    writer: &mut W,
+    log: &mut Writer<L>,
+    order: &mut S,
+    answers: Answers,
+) -> (SessionEnd, Option<TimeTable>, Flow)
+    requires { IsUnused log.old }
+    ensures served { ServesTo (is_some answers.style.variation) tree
+        (stream_bytes (I.remaining input.old) (W.written writer.old) log.old.bytes)
+        log.new.bytes result.0 }
+    ensures times { is_some result.1 ≡ is_some times }
+{
+    let mut reader = Tally::new(Counted::new(input));
+    let (end, times) = served(clock, tree, times, &mut reader, writer, log, order, answers);
+    let (_input, read) = reader.into_inner().into_parts();
+    (end, times, read)
 }
 
 /// The order in which requests are done and replies are sent.
