@@ -1,6 +1,7 @@
 -- What a run of `serve` does: from which tree it serves which session, what it saves, and how it says that. This
 -- profile's own.
-use Rattle.std.specs.Prelude.{◌≡◌, ◌⊎◌, ℕ, Bool, true, false, List, Option, Some, None, IfSome, Result, IfOk, OnOk, IsErr}
+use Rattle.std.specs.Prelude.{◌≡◌, ◌⊎◌, ℕ, Bool, true, false, List, Option, Some, None, IfSome, Result, IfOk, OnOk}
+use Rattle.std.specs.Prelude.{IsErr}
 use Rattle.std.specs.Prelude.{take}
 use Rattle.sftp_packets.specs.declared.packets.Packet.{Packet}
 use Rattle.sftp_packets.specs.Packets.{HasSpelling}
@@ -104,7 +105,8 @@ IsEnding closes.NoMemory ending = ⊥
 
 -- ---- the whole
 
--- what a run is asked for: whether the VERSION is free, whether times are kept, and whether the tree at the end is saved
+-- what a run is asked for: whether the VERSION is free, whether times are kept, and whether the tree at the end is
+-- saved
 pub record Wish : Type 0 where
   pub is_free : Bool
   pub has_times : Bool

@@ -187,8 +187,8 @@ fn new_log<'a, P: Places<'a>>(
     }
 }
 
-/// What a session leaves: how it ended, the times of the entries if it kept some, the place of its record, and what went
-/// through its streams.
+/// What a session leaves: how it ended, the times of the entries if it kept some, the place of its record, and what
+/// went through its streams.
 struct Finish<L> {
     end: SessionEnd,
     times: Option<TimeTable>,
