@@ -1,1 +1,3 @@
 mod AuditLaws
+mod StartLaws
+mod FindingLaws

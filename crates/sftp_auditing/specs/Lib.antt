@@ -1,1 +1,3 @@
 pub mod Audits
+pub mod Starts
+pub mod Findings

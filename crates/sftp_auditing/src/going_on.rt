@@ -1,7 +1,14 @@
 //! `audit --keep-going`: all that an audit finds wrong in a session, one finding after the other.
-ghost use Rattle.std.specs.Prelude.{◌≡◌, IfOk, IfErr};
+ghost use Rattle.std.specs.Prelude.{◌≡◌, ℕ, List, [], Some, IfOk, IfErr};
+ghost use Rattle.sftp_tree.specs.Picture.{IsStart};
+ghost use Rattle.sftp_profile.specs.declared.profiles.Profile.{Profile as profile_of};
+ghost use Rattle.sftp_profile.specs.State.{State};
+ghost use Rattle.sftp_profile.specs.Permitted.{Permitted};
+ghost use Rattle.sftp_audit.specs.Auditor.{StandsFor};
 ghost use Rattle.sftp_files.specs.declared.messages.Ending.TheVariants as endings;
 ghost use Rattle.sftp_files.specs.Failures.{IsUnwritten};
+ghost use Rattle.sftp_auditing.specs.Findings.{StandsForSome, RefusesSome, HasBegun, HasFed, IsFoundBy, IsHalted};
+ghost use Rattle.sftp_auditing.specs.Findings.{further_profile, IsFinding, IsNotRefused};
 
 use crate::auditing::{Finding, report_finding};
 use crate::counts::Counts;
@@ -9,14 +16,16 @@ use crate::totals::{End, Reason, Total, print_total};
 use sftp_audit::{AuditError, Auditor, Refusal};
 use sftp_commands::{
     Asked, Bearing, LeftOut, Outcome, Replied, find_reply, is_harmless, is_request, last_asked,
-    read_tree_again,
 };
 use sftp_files::{BoundedRecords, Ending, Failure, Meter, System, open};
 use sftp_profile::{Judge, Profile};
 use sftp_show::{Record, find_record};
 use sftp_transcript::{Reader, Source, Tally, TranscriptError};
-use sftp_verdicts::{AuditOptions, numbered, record_of};
+use sftp_tree::Tree;
+use sftp_treefile::TreeError;
+use sftp_verdicts::{AuditOptions, Opens, numbered, record_of};
 use sftp_wire::{Answer, asked_handle};
+use std::alloc::Global;
 use std::fs::Files;
 use std::io::{Read, Write};
 
@@ -25,10 +34,10 @@ const MOST: u64 = 100;
 
 /// Says why a session of these files is refused, and all else that is wrong with it behind replies that changed
 /// nothing, as if these and their requests were not there. Each further finding is that of a further audit.
-pub(crate) fn report_findings<'a, R: System, O: Write, E: Write>(
+pub(crate) fn report_findings<'a, T: Opens<'a>, R: System, O: Write, E: Write>(
     rt: &R,
     files: &AuditOptions<'a>,
-    tree: &str,
+    tree: &T,
     first: Finding,
     output: &mut O,
     errors: &mut E,
@@ -43,10 +52,10 @@ pub(crate) fn report_findings<'a, R: System, O: Write, E: Write>(
 }
 
 /// Says each finding, and returns how many there are and why there are no more.
-fn report_each<'a, R: System, O: Write, E: Write>(
+fn report_each<'a, T: Opens<'a>, R: System, O: Write, E: Write>(
     rt: &R,
     files: &AuditOptions<'a>,
-    tree: &str,
+    tree: &T,
     left_out: &mut LeftOut,
     first: Finding,
     output: &mut O,
@@ -74,13 +83,17 @@ fn report_each<'a, R: System, O: Write, E: Write>(
 }
 
 /// What an audit finds behind this finding, or why it finds no more.
-fn next_finding<R: System>(
+fn next_finding<'a, T: Opens<'a>, R: System>(
     rt: &R,
-    files: &AuditOptions<'_>,
-    tree: &str,
+    files: &AuditOptions<'a>,
+    tree: &T,
     left_out: &mut LeftOut,
     finding: Finding,
-) -> Result<Finding, End> {
+) -> Result<Finding, End>
+    // It is the first fault of some events, from the start that the tree file is.
+    ensures { IfOk result (λ next. (bytes : List ℕ) → T.bytes tree.now ≡ Some bytes →
+        IsFinding (further_profile files.now.profile) bytes next.refusal) }
+{
     leave_out(rt, files, left_out, finding)?;
     let next = judge_rest(rt, files, tree, left_out)?;
     let record = record_of(next.refusal);
@@ -274,25 +287,30 @@ enum Halt {
     Ended(End),
 }
 
-impl From<AuditError> for Halt {
-    fn from(error: AuditError) -> Halt {
-        match error {
-            AuditError::Refused(Refusal::NoMemory) => Halt::Ended(End::OutOfMemory),
-            AuditError::Refused(refusal) => Halt::Refused(refusal),
-            AuditError::Transcript(fault) => Halt::Ended(End::from(fault)),
-            AuditError::Tree(_) => Halt::Ended(End::OtherTranscript),
-            AuditError::NoMemory => Halt::Ended(End::OutOfMemory),
-        }
+/// What the error of an audit says of what is not left out.
+fn halt_of(error: AuditError) -> Halt
+    ensures { (profile : profile_of) (bytes : List ℕ) → IsFoundBy profile bytes error →
+        IsHalted profile bytes result }
+{
+    match error {
+        AuditError::Refused(Refusal::NoMemory) => Halt::Ended(End::OutOfMemory),
+        AuditError::Refused(refusal) => Halt::Refused(refusal),
+        AuditError::Transcript(fault) => Halt::Ended(End::from(fault)),
+        AuditError::Tree(_) => Halt::Ended(End::OtherTranscript),
+        AuditError::NoMemory => Halt::Ended(End::OutOfMemory),
     }
 }
 
 /// What an audit finds in all that is not left out, or why it finds nothing.
-fn judge_rest<R: System>(
+fn judge_rest<'a, T: Opens<'a>, R: System>(
     rt: &R,
-    files: &AuditOptions<'_>,
-    tree: &str,
+    files: &AuditOptions<'a>,
+    tree: &T,
     left_out: &mut LeftOut,
-) -> Result<Finding, End> {
+) -> Result<Finding, End>
+    ensures { IfOk result (λ next. (bytes : List ℕ) → T.bytes tree.now ≡ Some bytes →
+        IsFinding (further_profile files.now.profile) bytes next.refusal) }
+{
     let mut follows = true;
     match judge_file(rt, files, tree, left_out, &mut follows) {
         Ok(counts) => Err(End::Accepted(counts)),
@@ -326,20 +344,23 @@ fn number_of<R: Files + AllocGlobal>(
 
 /// Audits what is not left out of the session of these files, within the limit on memory if there is one. `follows` is
 /// set to whether the profile follows it up to where it is refused.
-fn judge_file<R: System>(
+fn judge_file<'a, T: Opens<'a>, R: System>(
     rt: &R,
-    files: &AuditOptions<'_>,
-    tree: &str,
+    files: &AuditOptions<'a>,
+    tree: &T,
     left_out: &mut LeftOut,
     follows: &mut bool,
-) -> Result<Counts, Halt> {
+) -> Result<Counts, Halt>
+    ensures { IfErr result (λ halt. (bytes : List ℕ) → T.bytes tree.now ≡ Some bytes →
+        IsHalted (further_profile files.now.profile) bytes halt) }
+{
     let file = match opened(open(rt, files.transcript)) {
         Ok(file) => file,
         Err(end) => return Err(Halt::Ended(end)),
     };
     match Meter::new(rt, files.memory) {
         Ok(mut meter) => {
-            let judged = judge_source(rt, files, tree, left_out, file, &mut meter, follows);
+            let judged = judge_source(rt.alloc(), files, tree, left_out, file, &mut meter, follows);
             let is_over = meter.is_over();
             drop(meter);
             halted(judged, is_over)
@@ -352,13 +373,16 @@ fn judge_file<R: System>(
 }
 
 /// What an audit gave, unless the process had more memory than it may.
-fn halted(judged: Result<Counts, AuditError>, is_over: bool) -> Result<Counts, Halt> {
+fn halted(judged: Result<Counts, AuditError>, is_over: bool) -> Result<Counts, Halt>
+    ensures { (profile : profile_of) (bytes : List ℕ) → IfErr judged (IsFoundBy profile bytes) →
+        IfErr result (IsHalted profile bytes) }
+{
     if is_over {
         return Err(Halt::Ended(End::OutOfMemory));
     }
     match judged {
         Ok(counts) => Ok(counts),
-        Err(error) => Err(Halt::from(error)),
+        Err(error) => Err(halt_of(error)),
     }
 }
 
@@ -371,19 +395,22 @@ fn opened<F>(file: Result<F, Failure<'_>>) -> Result<F, End> {
 }
 
 /// Audits what is not left out of the session of a transcript that is read as a stream.
-fn judge_source<R: Files + AllocGlobal, F: Read + Drop>(
-    rt: &R,
-    files: &AuditOptions<'_>,
-    tree: &str,
+fn judge_source<'a, T: Opens<'a>, F: Read + Drop>(
+    alloc: Global,
+    files: &AuditOptions<'a>,
+    tree: &T,
     left_out: &mut LeftOut,
     transcript: F,
     meter: &mut Meter,
     follows: &mut bool,
-) -> Result<Counts, AuditError> {
-    match BoundedRecords::new(rt.alloc(), transcript, meter) {
-        Ok(bounded) => match Reader::new(rt.alloc(), Tally::new(bounded)) {
+) -> Result<Counts, AuditError>
+    ensures { (bytes : List ℕ) → T.bytes tree.now ≡ Some bytes →
+        IfErr result (IsFoundBy (further_profile files.now.profile) bytes) }
+{
+    match BoundedRecords::new(alloc, transcript, meter) {
+        Ok(bounded) => match Reader::new(alloc, Tally::new(bounded)) {
             Ok(mut records) => {
-                let judged = judge_records(rt, files, tree, left_out, &mut records, follows);
+                let judged = judge_records(alloc, files, tree, left_out, &mut records, follows);
                 drop(records);
                 judged
             }
@@ -394,15 +421,18 @@ fn judge_source<R: Files + AllocGlobal, F: Read + Drop>(
 }
 
 /// Audits what is not left out of the session of a reader that has read nothing yet.
-fn judge_records<R: Files + AllocGlobal, T: Source>(
-    rt: &R,
-    files: &AuditOptions<'_>,
-    tree: &str,
+fn judge_records<'a, T: Opens<'a>, R: Source>(
+    alloc: Global,
+    files: &AuditOptions<'a>,
+    tree: &T,
     left_out: &mut LeftOut,
-    records: &mut Reader<T>,
+    records: &mut Reader<R>,
     follows: &mut bool,
-) -> Result<Counts, AuditError> {
-    match new_auditor(rt, files, tree) {
+) -> Result<Counts, AuditError>
+    ensures { (bytes : List ℕ) → T.bytes tree.now ≡ Some bytes →
+        IfErr result (IsFoundBy (further_profile files.now.profile) bytes) }
+{
+    match new_auditor(alloc, files, tree) {
         Ok(mut auditor) => match feed_rest(&mut auditor, left_out, records) {
             Ok(requests) => ended(auditor, requests, left_out.hanging(), files.cuts),
             Err(error) => {
@@ -416,18 +446,39 @@ fn judge_records<R: Files + AllocGlobal, T: Source>(
 }
 
 /// An auditor of a session that begins on this tree.
-fn new_auditor<R: Files + AllocGlobal>(
-    rt: &R,
-    files: &AuditOptions<'_>,
-    tree: &str,
-) -> Result<Auditor<Judge>, AuditError> {
+fn new_auditor<'a, T: Opens<'a>>(
+    alloc: Global,
+    files: &AuditOptions<'a>,
+    tree: &T,
+) -> Result<Auditor<Judge>, AuditError>
+    ensures begun { IfOk result (λ auditor. (bytes : List ℕ) → T.bytes tree.now ≡ Some bytes →
+        HasBegun (further_profile files.now.profile) bytes auditor) }
+    ensures err { IfErr result IsNotRefused }
+{
     let profile = files.profile.unwrap_or(Profile::strict());
-    match read_tree_again(rt, tree) {
+    match read_again(alloc, tree) {
         Ok(tree) => match Auditor::<Judge>::by(profile, tree) {
             Ok(auditor) => Ok(auditor),
             Err(_no_memory) => Err(AuditError::NoMemory),
         },
         Err(error) => Err(AuditError::from(error)),
+    }
+}
+
+/// The tree of a tree file that is read once more.
+///
+/// # Errors
+///
+/// The first fault of the file; `Io` at no entry if it cannot be opened.
+fn read_again<'a, T: Opens<'a>>(alloc: Global, tree: &T) -> Result<Tree, TreeError>
+    ensures { IfOk result (λ start. (bytes : List ℕ) → T.bytes tree.now ≡ Some bytes → IsStart start bytes) }
+{
+    match tree.open() {
+        Ok(file) => Tree::read_from(alloc, Tally::new(file)),
+        Err(failure) => {
+            drop(failure);
+            Err(TreeError::Io { entry: 0 })
+        }
     }
 }
 
@@ -438,7 +489,10 @@ fn ended(
     requests: u64,
     hanging: u64,
     cuts: bool,
-) -> Result<Counts, AuditError> {
+) -> Result<Counts, AuditError>
+    ensures { (profile : profile_of) (bytes : List ℕ) → HasFed profile bytes auditor →
+        IfErr result (IsFoundBy profile bytes) }
+{
     let kept = auditor.kept();
     let unanswered = auditor.unanswered();
     if cuts {
@@ -465,7 +519,13 @@ pub(crate) fn feed_rest<R: Source>(
     auditor: &mut Auditor<Judge>,
     left_out: &mut LeftOut,
     records: &mut Reader<R>,
-) -> Result<u64, AuditError> {
+) -> Result<u64, AuditError>
+    // From wherever nothing was fed.
+    ensures fed { IfOk result (λ _. (start : State) → StandsFor Permitted start [] auditor.old →
+        StandsForSome Permitted start auditor.new) }
+    ensures refused { IfErr result (λ e. (start : State) → StandsFor Permitted start [] auditor.old →
+        RefusesSome Permitted start e) }
+{
     left_out.begin();
     let mut requests: u64 = 0;
     'events: while let Some(event) = left_out.next(records)? {
