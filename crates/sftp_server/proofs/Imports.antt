@@ -65,15 +65,15 @@ pub use Rattle.sftp_wire.specs.Fronts.{place_after}
 pub use Rattle.sftp_wire.specs.Fronts.{StandsInFront}
 unfoldable pub use Rattle.sftp_wire.specs.Fronts.{front_of}
 pub use mathlib.Core.Bool.{or-true, and-false, or-false, or_assoc, or_comm}
-pub use Rattle.sftp_server.specs.Queue.{choices_at, choices_of, IsPossible, steps_left}
-unfoldable pub use Rattle.sftp_server.specs.Queue.{choices_from, owed}
+pub use Rattle.sftp_server.specs.Queue.{IsPossible, steps_left}
+unfoldable pub use Rattle.sftp_server.specs.Queue.{owed}
 pub use Rattle.sftp_server.specs.Machine.{server_clash, HasGoodReply, IsSendable, IsCore, IsValue, IsReached, IsRefusedFor}
 pub use Rattle.sftp_server.specs.Machine.{AreDeliverable}
 pub use Rattle.sftp_server.specs.Ending.{fault_of, found_refused, TakesOn}
 pub use Rattle.sftp_server.specs.Left.{LeadsTo, Leaves, LeavesAt, IsAfterDone, IsLeftAfter}
 unfoldable pub use Rattle.sftp_server.specs.Left.{AreDone}
 pub use Rattle.sftp_server.specs.Machine.{Machine, ClashOf, is_sent, is_ready, reply_at, IsWorked, IsSent, is_pending}
-pub use Rattle.sftp_server.specs.Machine.{ready_in, reply_of, is_pending_at, pending_in, reply_in, at_start, taken}
+pub use Rattle.sftp_server.specs.Machine.{ready_in, reply_of, is_pending_at, at_start, taken}
 pub use Rattle.sftp_server.specs.Machine.{can_take, IsIdle, IsDelivery, IsWork, IsSend, IsAct, AreActs, Delivers}
 unfoldable pub use Rattle.sftp_server.specs.Machine.{is_free_of, from_unsent, is_unsent}
 pub use Rattle.sftp_server.specs.Queue.{request_in, pending_at, HasReply, sent_in, IsQueue, clashes_in}

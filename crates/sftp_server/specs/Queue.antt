@@ -1,6 +1,6 @@
 -- What a queue keeps beside its requests.
 use Rattle.std.specs.Prelude.{◌≡◌, nat_eq, ℕ, zero, suc, Bool, false, List, [], ◌∷◌, is_some, if◌then◌else◌, Option}
-use Rattle.std.specs.Prelude.{Some, None, slice_get, ◌+◌, ◌++◌, IsTrue, length}
+use Rattle.std.specs.Prelude.{Some, None, slice_get, ◌+◌, IsTrue}
 use Rattle.std.specs.Map.{lookup}
 use Rattle.sftp_packets.specs.declared.packets.Request.{Request}
 use Rattle.sftp_packets.specs.declared.packets.Reply.{Reply}
@@ -55,20 +55,6 @@ pub record IsQueue (queue : List Entry) (ids : List (ℕ × Unit {0})) : Type 0 
   pub apart : AreUnsentApart queue
 
 -- ==== What a machine may do next.
-
--- the act that is possible at this position, if one is: to do a request that is ready, or to send a reply
-abbrev pub choices_at : {S : Type 0} → ClashOf S → Machine S → ℕ → List Choice
-choices_at clash machine k =
-    if is_ready clash machine k then Work k ∷ [] else if is_some (reply_at machine.queue k) then Send k ∷ [] else []
-
--- those at `count` positions from `k` on
-unfoldable pub choices_from : {S : Type 0} → ClashOf S → Machine S → ℕ → ℕ → List Choice
-choices_from clash machine k zero = []
-choices_from clash machine k (suc count) = choices_at clash machine k ++ choices_from clash machine (suc k) count
-
--- all acts that are possible, in the order of the queue
-abbrev pub choices_of : {S : Type 0} → ClashOf S → Machine S → List Choice
-choices_of clash machine = choices_from clash machine 0 (length machine.queue)
 
 -- the act is possible
 abbrev pub IsPossible : {S : Type 0} → ClashOf S → Machine S → Choice → Type 0

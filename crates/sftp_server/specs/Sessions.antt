@@ -1,6 +1,6 @@
 -- A session of the server while it runs: what it read, wrote and logged since it began, and which requests it has
 -- (draft-ietf-secsh-filexfer-02, sections 3 to 7). Words of private contracts: no public one reaches this file.
-use Rattle.std.specs.Prelude.{not, ℕ, false, Option, Some, None, ◌≡◌, ◌≢◌, ◌⊎◌, List, []}
+use Rattle.std.specs.Prelude.{ℕ, false, Option, Some, None, ◌≡◌, ◌≢◌, ◌⊎◌, List, []}
 use Rattle.std.specs.Prelude.{◌++◌, length, Result, Err, MatchResult, IsTrue, drop}
 use Rattle.sftp_handles.specs.State.{State, Good, started, closed_tree}
 use Rattle.std.specs.List.{AllByRecursion}

@@ -1,8 +1,8 @@
 //! The core of a server: takes requests, does them, and gives their replies
 //! (draft-ietf-secsh-filexfer-02, section 6.1).
-ghost use Rattle.std.specs.Prelude.{◌≡◌, ◌≢◌, ◌≤◌, [], ◌∷◌, false, length, IsTrue, IfOk, IfErr, OnOk, OnErr, IfSome};
+ghost use Rattle.std.specs.Prelude.{◌≡◌, ◌≢◌, ◌≤◌, [], false, length, IsTrue, IfOk, IfErr, OnOk, OnErr, IfSome};
 ghost use Rattle.std.specs.Prelude.{IfNone};
-ghost use Rattle.std.specs.Prelude.{◌↔◌, ◌<◌, nat_lt, Some, if◌then◌else◌, is_some, slice_get};
+ghost use Rattle.std.specs.Prelude.{◌↔◌, nat_lt, Some, if◌then◌else◌, is_some};
 ghost use Rattle.sftp_packets.specs.declared.packets.Packet.TheVariants.{Reply as reply_packet};
 ghost use Rattle.sftp_packets.specs.Packets.{HasSpelling};
 ghost use Rattle.sftp_transcript.specs.Explained.{window as full_window};
@@ -14,11 +14,12 @@ ghost use Rattle.sftp_server.specs.declared.refusals.Refuse.TheVariants.{Full as
 ghost use Rattle.sftp_server.specs.declared.refusals.Refuse.TheVariants.{NoMemory as no_memory};
 ghost use Rattle.sftp_server.specs.Machine.{is_unsent};
 ghost use Rattle.sftp_server.specs.Machine.{at_start, taken, can_take, is_ready, is_pending_at, reply_at, IsWorked};
-ghost use Rattle.sftp_server.specs.Machine.{IsSent, from_unsent};
-ghost use Rattle.sftp_server.specs.Queue.{choices_of, choices_at, IsPossible};
+ghost use Rattle.sftp_server.specs.Machine.{IsSent};
+ghost use Rattle.sftp_server.specs.Queue.{IsPossible};
 ghost use Rattle.sftp_server.specs.Machine.{server_clash, IsRefusedFor};
 
 use crate::answerers::{Answerer, Plain};
+use crate::known::Known;
 use crate::queue::Queue;
 use crate::refusals::{Did, Refuse};
 use sftp_handles::{HandleTable, Session};
@@ -42,6 +43,8 @@ pub(crate) enum Choice {
 pub struct Core<T: HandleTable> {
     session: Session<T>,
     queue: Queue,
+    /// Which requests were found ready.
+    known: Known,
     window: usize,
 }
 
@@ -73,6 +76,7 @@ impl<T: HandleTable> Core<T> {
         Ok(Core {
             session: Session::new(tree)?,
             queue: Queue::new(alloc),
+            known: Known::new(alloc),
             window,
         })
     }
@@ -207,7 +211,10 @@ impl<T: HandleTable> Core<T> {
         ensures spelled { IfSome result (λ reply. HasSpelling (reply_packet reply)) }
         ensures unchanged { IfNone result (self.new ≡ self.old) }
     {
-        self.queue.send(k)
+        let before = self.queue.len();
+        let sent = self.queue.send(k);
+        self.known.pass(before.saturating_sub(self.queue.len()));
+        sent
     }
 
     /// The position of the unanswered request with this id.
@@ -227,37 +234,26 @@ impl<T: HandleTable> Core<T> {
         self.queue.is_done(k)
     }
 
-    /// How many acts are possible: requests that are ready, and replies to be sent. Compares each request that is
-    /// pending with those before it.
-    pub(crate) fn choices(&self) -> usize
-        ensures count { result ≡ length (choices_of server_clash self.now) }
-        ensures front { from_unsent self.now.queue ≡ self.now.queue }
+    /// How many acts are possible: requests that are ready, and replies to be sent.
+    pub(crate) fn choices(&mut self) -> usize
+        ensures { self.new ≡ self.old }
     {
-        let mut count = 0;
-        let mut k = 0;
-        'each: while k < self.queue.len() {
-            count += self.choices_at(k);
-            k += 1;
-        }
-        count
+        self.known.count(&self.session, &self.queue)
     }
 
-    /// The act of this number, from 0, among those possible, in the order of the queue.
-    pub(crate) fn choice(&self, number: usize) -> Choice
-        requires { number < length (choices_of server_clash self.now) }
-        ensures { slice_get (choices_of server_clash self.now) number ≡ Some result }
+    /// The act of this number, from 0, among those that were counted, in the order of the queue; `None` if it is not
+    /// possible.
+    pub(crate) fn choice(&self, number: usize) -> Option<Choice>
+        ensures { IfSome result (IsPossible server_clash self.now) }
     {
-        let mut left = number;
-        let mut k = 0;
-        'each: while k < self.queue.len() {
-            let here = self.choices_at(k);
-            if left < here {
-                return self.act_at(k);
-            }
-            left -= here;
-            k += 1;
+        let k = self.known.position(number)?;
+        if self.is_done(k) {
+            Some(Choice::Send(k))
+        } else if self.ready(k) {
+            Some(Choice::Work(k))
+        } else {
+            None
         }
-        unreachable!()
     }
 
     /// The first of the acts that are possible, if one is. It is at the front: nothing is before that, so there is no
@@ -272,24 +268,6 @@ impl<T: HandleTable> Core<T> {
             Some(Choice::Send(0))
         } else {
             None
-        }
-    }
-
-    /// How many acts are possible at this position: 1 or 0.
-    fn choices_at(&self, k: usize) -> usize
-        ensures { result ≡ length (choices_at server_clash self.now k) }
-    {
-        (self.ready(k) || self.is_done(k)) as usize
-    }
-
-    /// The act at this position, if one is possible there.
-    fn act_at(&self, k: usize) -> Choice
-        ensures { 0 < length (choices_at server_clash self.now k) → choices_at server_clash self.now k ≡ result ∷ [] }
-    {
-        if self.queue.is_pending(k) {
-            Choice::Work(k)
-        } else {
-            Choice::Send(k)
         }
     }
 
@@ -317,6 +295,7 @@ impl<T: HandleTable> Core<T> {
         ensures { result ≡ closed_tree self.state }
     {
         drop(self.queue);
+        drop(self.known);
         self.session.into_tree()
     }
 }

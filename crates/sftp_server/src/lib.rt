@@ -8,6 +8,7 @@ mod cores;
 mod ends;
 pub mod examples;
 mod input;
+mod known;
 pub mod laws;
 mod opening;
 mod queue;

@@ -1,5 +1,5 @@
 //! The queue of a server: its requests from the first unanswered one on.
-ghost use Rattle.std.specs.Prelude.{◌≡◌, ◌↔◌, ◌++◌, [], ◌∷◌, IsTrue, false, length, take};
+ghost use Rattle.std.specs.Prelude.{◌≡◌, ◌↔◌, ◌++◌, [], ◌∷◌, IsTrue, false, length, take, not};
 ghost use Rattle.std.specs.Prelude.{IfErr, OnOk, OnErr, IfSome, IfNone, is_some, option_copied, slice_get};
 ghost use Rattle.std.specs.Option.{option_map};
 ghost use Rattle.sftp_server.specs.declared.queue.Progress.TheVariants as progress;
@@ -108,7 +108,7 @@ impl Queue {
     }
 
     /// The entry at this position.
-    fn entry(&self, k: usize) -> Option<&Entry>
+    pub(crate) fn entry(&self, k: usize) -> Option<&Entry>
         ensures { option_copied result ≡ slice_get self.now k }
     {
         self.entries.get(k)
@@ -178,23 +178,28 @@ impl Queue {
         ensures { result ≡ ready_in server_clash session.now (take k self.now) (slice_get self.now k) }
     {
         match self.pending(k) {
-            Some(request) => self.is_free(session, k, request),
+            Some(request) => self.blocker(session, k, request).is_none(),
             None => false,
         }
     }
 
-    /// Whether no request before this position is pending and conflicts with this one, which was asked later.
-    fn is_free<T: HandleTable>(&self, session: &Session<T>, k: usize, request: &Request) -> bool
-        ensures { result ≡ is_free_of server_clash session.now (take k self.now) request.now }
+    /// The last position before this one of a pending request that conflicts with this request, which was asked later.
+    pub(crate) fn blocker<T: HandleTable>(
+        &self,
+        session: &Session<T>,
+        k: usize,
+        request: &Request,
+    ) -> Option<usize>
+        ensures { is_free_of server_clash session.now (take k self.now) request.now ≡ not (is_some result) }
     {
         let mut j = k;
         'down: while j > 0 {
             j -= 1;
             if self.is_in_way(session, j, request) {
-                return false;
+                return Some(j);
             }
         }
-        true
+        None
     }
 
     /// Whether the request at this position is pending and conflicts with this one, which was asked later.

@@ -1,0 +1,4 @@
+pub mod Joint
+pub mod Deeds
+pub mod Orders
+pub mod Translated

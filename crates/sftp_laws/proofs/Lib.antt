@@ -1,0 +1,5 @@
+pub mod LimitsKept
+pub mod HollowFiles
+pub mod HollowTrees
+pub mod HollowSteps
+pub mod HollowRuns

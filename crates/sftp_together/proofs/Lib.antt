@@ -1,0 +1,4 @@
+pub mod Orders
+pub mod Refuting
+pub mod Alone
+pub mod Worked
