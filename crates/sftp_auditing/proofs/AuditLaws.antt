@@ -1,6 +1,7 @@
 -- From what an audit of a stream says to what the program says.
 use Rattle.std.proofs.Common.{◌≡◌, ℕ, Bool, true, false, List, Option, Some, None, Result, Ok, Err, refl, sym, subst}
 use Rattle.std.specs.Result.{IfOk, IfErr}
+use Rattle.std.specs.Prelude.{MatchResult}
 use Rattle.sftp_tree.specs.Tree.{Tree}
 use Rattle.sftp_tree.specs.Picture.{IsStart}
 use Rattle.sftp_treefile.specs.declared.errors.TreeError.{TreeError}
@@ -31,7 +32,8 @@ use Rattle.sftp_files.specs.declared.messages.Failure.{Failure}
 use Rattle.sftp_files.specs.declared.messages.Failure.TheVariants as failures
 use Rattle.sftp_files.specs.Failures.{failure_status, tree_failure, IsTranscriptFailure, IsUnread, IsUnwritten}
 use Rattle.sftp_verdicts.specs.Verdicts.{AccountOf}
-use Rattle.sftp_auditing.specs.Audits.{FaultOf, ToldOf, EndOf, IsAudit, IsSaid, IsSaidAsked, IsReportOf, IsFailureOf}
+use Rattle.sftp_auditing.specs.Audits.{FaultOf, ToldOf, EndOf, IsAudit, IsSaid, IsSaidAsked, IsReportOf, IsReportOfError}
+use Rattle.sftp_auditing.specs.Audits.{IsFailureOf}
 use Rattle.sftp_auditing.specs.Audits.{IsOutcome, accounts_by, fault_asked, uncut}
 use Rattle.sftp_auditing.specs.Starts.{IsStartOf}
 
@@ -135,7 +137,7 @@ module _ (accounts : AccountOf) (faults : FaultOf) (tells : ToldOf) (OfEnd : End
         → IsAudit accounts faults tells tree known (Ok ended) follows
         → IsSaid accounts faults OfEnd tree known (Ok ending)
     accepted_said ended endings.Done is of_end audit = λ bytes read.
-        let told = audit bytes read in (told.0, told.1, told.2, told.3, subst OfEnd told.4 of_end)
+        let told = audit bytes read in (told.0, told.1, told.2, told.3, subst OfEnd told.4.0 of_end)
     accepted_said ended other is of_end audit = absurd cc
 
     refused_said : (error : AuditError) (ending : Ending) → ending ≡ endings.Refused → (IsNoJudgement error → ⊥)
@@ -195,7 +197,7 @@ memory_failure error (failures.Tree fault) is = absurd cc
 memory_failure error (failures.Transcript fault) is = absurd cc
 memory_failure error other is = tt
 
-same_failure : (a b : Failure) → Err {A = Refusal} a ≡ Err b → a ≡ b
+same_failure : (a b : Failure) → ◌≡◌ {A = Result Refusal Failure} (Err a) (Err b) → a ≡ b
 same_failure a b is = cc
 
 pub failure_of : (name : List ℕ) (error : AuditError) (failure : Failure) → IsOutcome name error (Err failure)
@@ -210,6 +212,20 @@ pub unwritten_failure : (error : AuditError) (failure : Failure) → IsUnwritten
 unwritten_failure error (failures.Tree fault) is = absurd is
 unwritten_failure error (failures.Transcript fault) is = absurd is
 unwritten_failure error other is = tt
+
+-- a session is refused where its audit refuses it, which is a judgement
+judged_outcome : (name : List ℕ) (error : AuditError) (refusal : Refusal) → IsOutcome name error (Ok refusal)
+    → IsNoJudgement error → ⊥
+judged_outcome name (audit_errors.Refused refused) refusal is = λ none. none
+judged_outcome name (audit_errors.Tree fault) refusal is = λ none. none
+judged_outcome name (audit_errors.Transcript fault) refusal is = absurd is
+judged_outcome name audit_errors.NoMemory refusal is = absurd cc
+
+pub reported_refusal : (name : List ℕ) (error : AuditError) (refusal : Refusal) (result : Result Ending Failure)
+    → IsOutcome name error (Ok refusal) → IfOk result (λ ending. ending ≡ endings.Refused) → IfErr result IsUnwritten
+    → MatchResult result (IsReportOfError error) (IsFailureOf error)
+reported_refusal name error refusal (Ok ending) outcome is unwritten = (is, judged_outcome name error refusal outcome)
+reported_refusal name error refusal (Err failure) outcome is unwritten = unwritten_failure error failure unwritten
 
 -- ---- a tree file with a fault
 

@@ -67,17 +67,15 @@ module _ (accounts : AccountOf) (options : InferOptions) (tree out : Stored) (se
   pub inferred : (found : Found) (ending : Ending) (wanted : Bool) → (IfSome options.out (λ _. wanted ≡ true))
       → IsExplained accounts wanted session found → (ending ≡ endings.Done → AreWritten options tree out found)
       → IsInferred accounts options tree out session ending
-  inferred (founds.Inferred inferred) ending wanted asked run written = λ is.
+  inferred (founds.Inferred at_hand) ending wanted asked run written = λ is.
       let files = written is in (
-        bytes_of inferred.candidate.tree,
+        bytes_of at_hand.candidate.tree,
         run.0,
         run.1,
         run.2,
         run.3,
-        (
-          files.0,
-          end_written (λ bytes. bytes.items) options.out inferred.ended.tree wanted (picture run.2) asked run.5 files.1,
-        ),
+        files.0,
+        end_written (λ bytes. bytes.items) options.out at_hand.ended.tree wanted (picture run.2) asked run.4.1 files.1,
       )
   inferred other ending wanted asked run written = λ is. absurd (written is)
 
