@@ -12,9 +12,9 @@ returns-clause-verdict g c = λ bytes is.
     IsSaidAsked c.args.files.now.profile c.args.files.now.cuts
     (IsStoredEnd (g.K.Stores.stored c.args.out.now) (g.K.Stores.stored c.judge_and_report.new.out)) bytes known result in
     let known = g.F.Read.remaining c.args.transcript in
+    let said = subst (λ (it : Option (List ℕ)). Holds it c.judge_and_report.result) c.in_ok-bounded.ensures
+    (c.judge_and_report.ensures.verdict bytes is) in
     elim c.match-judge_and_report.branch [
-      | in_default-2 w ↦ subst (Holds known) (sym w.result-is) tt
-      | in_default w ↦ subst (Holds known) (sym w.result-is)
-          (subst (λ (it : Option (List ℕ)). Holds it c.judge_and_report.result)
-          c.in_ok-bounded.ensures (c.judge_and_report.ensures.verdict bytes is))
+      | in_default-2 w ↦ subst (Holds known) (sym w.result-is) (subst (Holds known) w.in-Err.is said)
+      | in_default w ↦ subst (Holds known) (sym w.result-is) said
     ]
