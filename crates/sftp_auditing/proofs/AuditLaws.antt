@@ -32,8 +32,8 @@ use Rattle.sftp_files.specs.declared.messages.Failure.{Failure}
 use Rattle.sftp_files.specs.declared.messages.Failure.TheVariants as failures
 use Rattle.sftp_files.specs.Failures.{failure_status, tree_failure, IsTranscriptFailure, IsUnread, IsUnwritten}
 use Rattle.sftp_verdicts.specs.Verdicts.{AccountOf}
-use Rattle.sftp_auditing.specs.Audits.{FaultOf, ToldOf, EndOf, IsAudit, IsSaid, IsSaidAsked, IsReportOf, IsReportOfError}
-use Rattle.sftp_auditing.specs.Audits.{IsFailureOf}
+use Rattle.sftp_auditing.specs.Audits.{FaultOf, ToldOf, EndOf, IsAudit, IsSaid, IsSaidAsked}
+use Rattle.sftp_auditing.specs.Audits.{IsReportOf, IsReportOfError, IsFailureOf}
 use Rattle.sftp_auditing.specs.Audits.{IsOutcome, accounts_by, fault_asked, uncut}
 use Rattle.sftp_auditing.specs.Starts.{IsStartOf}
 
@@ -108,7 +108,8 @@ module _ (accounts : AccountOf) (faults : FaultOf) (tells : ToldOf) (OfEnd : End
     (known : Option (List ℕ)) (follows : Bool)
   where
     -- a run that ends for another reason says nothing
-    pub unwritten_said : (failure : Failure) → IsUnwritten failure → IsSaid accounts faults OfEnd tree known (Err failure)
+    pub unwritten_said : (failure : Failure) → IsUnwritten failure
+        → IsSaid accounts faults OfEnd tree known (Err failure)
     unwritten_said (failures.Tree fault) is = absurd is
     unwritten_said (failures.Transcript fault) is = absurd is
     unwritten_said other is = tt
@@ -172,8 +173,8 @@ opened_said accounts faults OfEnd tree known of_file (Err other) same said = tt
 
 -- ---- the failure that an error is
 
-transcript_failure : (name : List ℕ) (error : TranscriptError) (failure : Failure) → IsTranscriptFailure name error failure
-    → IsFailureOf (audit_errors.Transcript error) failure
+transcript_failure : (name : List ℕ) (error : TranscriptError) (failure : Failure)
+    → IsTranscriptFailure name error failure → IsFailureOf (audit_errors.Transcript error) failure
 transcript_failure name transcript_errors.NoMemory (failures.Tree fault) is = absurd cc
 transcript_failure name transcript_errors.NoMemory (failures.Transcript fault) is = absurd cc
 transcript_failure name transcript_errors.NoMemory other is = tt
@@ -235,6 +236,7 @@ malformed None bytes transcript error none = none
 malformed (Some profile) bytes transcript error none = none
 
 pub start_said : (profile : Option Profile) (cuts : Bool) (OfEnd : EndOf) (bytes : List ℕ) (known : Option (List ℕ))
-    (error : TreeError) → IsStartOf bytes (Err error) → IsSaidAsked profile cuts OfEnd bytes known (Err (tree_failure error))
+    (error : TreeError) → IsStartOf bytes (Err error)
+    → IsSaidAsked profile cuts OfEnd bytes known (Err (tree_failure error))
 start_said profile cuts OfEnd bytes known tree_errors.NoMemory is = tt
 start_said profile cuts OfEnd bytes known error is = λ transcript read. malformed profile bytes transcript error is

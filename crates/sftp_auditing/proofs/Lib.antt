@@ -1,3 +1,2 @@
 mod AuditLaws
 mod StartLaws
-mod FindingLaws

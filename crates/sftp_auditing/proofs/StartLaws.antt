@@ -1,5 +1,6 @@
 -- What is read of a tree file, of which no more than the limit is looked at.
-use Rattle.std.proofs.Common.{arith, ◌≡◌, ◌∙◌, ◌≤◌, ◌+◌, ◌-◌, ◌<◌, ◌^◌, ℕ, List, Option, Some, None, Result, Ok, Err, sym, subst, ap, length}
+use Rattle.std.proofs.Common.{arith, ◌≡◌, ◌∙◌, ◌≤◌, ◌+◌, ◌-◌, ◌<◌, ◌^◌, ℕ, List, Option, Some, Result, Ok, Err}
+use Rattle.std.proofs.Common.{sym, subst, ap, length}
 use Rattle.std.proofs.lemmas.List.{take_all}
 use Rattle.std.proofs.lemmas.Result.{IfOk-weaker}
 use Rattle.std.specs.Prelude.{min, option_map, take, unwrap_or}

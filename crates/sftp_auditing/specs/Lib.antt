@@ -1,3 +1,2 @@
 pub mod Audits
 pub mod Starts
-pub mod Findings

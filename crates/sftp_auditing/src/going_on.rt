@@ -1,14 +1,7 @@
 //! `audit --keep-going`: all that an audit finds wrong in a session, one finding after the other.
-ghost use Rattle.std.specs.Prelude.{◌≡◌, ℕ, List, [], Some, IfOk, IfErr};
-ghost use Rattle.sftp_tree.specs.Picture.{IsStart};
-ghost use Rattle.sftp_profile.specs.declared.profiles.Profile.{Profile as profile_of};
-ghost use Rattle.sftp_profile.specs.State.{State};
-ghost use Rattle.sftp_profile.specs.Permitted.{Permitted};
-ghost use Rattle.sftp_audit.specs.Auditor.{StandsFor};
+ghost use Rattle.std.specs.Prelude.{◌≡◌, IfOk, IfErr};
 ghost use Rattle.sftp_files.specs.declared.messages.Ending.TheVariants as endings;
 ghost use Rattle.sftp_files.specs.Failures.{IsUnwritten};
-ghost use Rattle.sftp_auditing.specs.Findings.{StandsForSome, RefusesSome, HasBegun, HasFed, IsFoundBy, IsHalted};
-ghost use Rattle.sftp_auditing.specs.Findings.{further_profile, IsFinding, IsNotRefused};
 
 use crate::auditing::{Finding, report_finding};
 use crate::counts::Counts;
@@ -89,11 +82,7 @@ fn next_finding<'a, T: Opens<'a>, R: System>(
     tree: &T,
     left_out: &mut LeftOut,
     finding: Finding,
-) -> Result<Finding, End>
-    // It is the first fault of some events, from the start that the tree file is.
-    ensures { IfOk result (λ next. (bytes : List ℕ) → T.bytes tree.now ≡ Some bytes →
-        IsFinding (further_profile files.now.profile) bytes next.refusal) }
-{
+) -> Result<Finding, End> {
     leave_out(rt, files, left_out, finding)?;
     let next = judge_rest(rt, files, tree, left_out)?;
     let record = record_of(next.refusal);
@@ -288,10 +277,7 @@ enum Halt {
 }
 
 /// What the error of an audit says of what is not left out.
-fn halt_of(error: AuditError) -> Halt
-    ensures { (profile : profile_of) (bytes : List ℕ) → IsFoundBy profile bytes error →
-        IsHalted profile bytes result }
-{
+fn halt_of(error: AuditError) -> Halt {
     match error {
         AuditError::Refused(Refusal::NoMemory) => Halt::Ended(End::OutOfMemory),
         AuditError::Refused(refusal) => Halt::Refused(refusal),
@@ -307,10 +293,7 @@ fn judge_rest<'a, T: Opens<'a>, R: System>(
     files: &AuditOptions<'a>,
     tree: &T,
     left_out: &mut LeftOut,
-) -> Result<Finding, End>
-    ensures { IfOk result (λ next. (bytes : List ℕ) → T.bytes tree.now ≡ Some bytes →
-        IsFinding (further_profile files.now.profile) bytes next.refusal) }
-{
+) -> Result<Finding, End> {
     let mut follows = true;
     match judge_file(rt, files, tree, left_out, &mut follows) {
         Ok(counts) => Err(End::Accepted(counts)),
@@ -350,10 +333,7 @@ fn judge_file<'a, T: Opens<'a>, R: System>(
     tree: &T,
     left_out: &mut LeftOut,
     follows: &mut bool,
-) -> Result<Counts, Halt>
-    ensures { IfErr result (λ halt. (bytes : List ℕ) → T.bytes tree.now ≡ Some bytes →
-        IsHalted (further_profile files.now.profile) bytes halt) }
-{
+) -> Result<Counts, Halt> {
     let file = match opened(open(rt, files.transcript)) {
         Ok(file) => file,
         Err(end) => return Err(Halt::Ended(end)),
@@ -373,10 +353,7 @@ fn judge_file<'a, T: Opens<'a>, R: System>(
 }
 
 /// What an audit gave, unless the process had more memory than it may.
-fn halted(judged: Result<Counts, AuditError>, is_over: bool) -> Result<Counts, Halt>
-    ensures { (profile : profile_of) (bytes : List ℕ) → IfErr judged (IsFoundBy profile bytes) →
-        IfErr result (IsHalted profile bytes) }
-{
+fn halted(judged: Result<Counts, AuditError>, is_over: bool) -> Result<Counts, Halt> {
     if is_over {
         return Err(Halt::Ended(End::OutOfMemory));
     }
@@ -403,10 +380,7 @@ fn judge_source<'a, T: Opens<'a>, F: Read + Drop>(
     transcript: F,
     meter: &mut Meter,
     follows: &mut bool,
-) -> Result<Counts, AuditError>
-    ensures { (bytes : List ℕ) → T.bytes tree.now ≡ Some bytes →
-        IfErr result (IsFoundBy (further_profile files.now.profile) bytes) }
-{
+) -> Result<Counts, AuditError> {
     match BoundedRecords::new(alloc, transcript, meter) {
         Ok(bounded) => match Reader::new(alloc, Tally::new(bounded)) {
             Ok(mut records) => {
@@ -428,10 +402,7 @@ fn judge_records<'a, T: Opens<'a>, R: Source>(
     left_out: &mut LeftOut,
     records: &mut Reader<R>,
     follows: &mut bool,
-) -> Result<Counts, AuditError>
-    ensures { (bytes : List ℕ) → T.bytes tree.now ≡ Some bytes →
-        IfErr result (IsFoundBy (further_profile files.now.profile) bytes) }
-{
+) -> Result<Counts, AuditError> {
     match new_auditor(alloc, files, tree) {
         Ok(mut auditor) => match feed_rest(&mut auditor, left_out, records) {
             Ok(requests) => ended(auditor, requests, left_out.hanging(), files.cuts),
@@ -450,11 +421,7 @@ fn new_auditor<'a, T: Opens<'a>>(
     alloc: Global,
     files: &AuditOptions<'a>,
     tree: &T,
-) -> Result<Auditor<Judge>, AuditError>
-    ensures begun { IfOk result (λ auditor. (bytes : List ℕ) → T.bytes tree.now ≡ Some bytes →
-        HasBegun (further_profile files.now.profile) bytes auditor) }
-    ensures err { IfErr result IsNotRefused }
-{
+) -> Result<Auditor<Judge>, AuditError> {
     let profile = files.profile.unwrap_or(Profile::strict());
     match read_again(alloc, tree) {
         Ok(tree) => match Auditor::<Judge>::by(profile, tree) {
@@ -470,9 +437,7 @@ fn new_auditor<'a, T: Opens<'a>>(
 /// # Errors
 ///
 /// The first fault of the file; `Io` at no entry if it cannot be opened.
-fn read_again<'a, T: Opens<'a>>(alloc: Global, tree: &T) -> Result<Tree, TreeError>
-    ensures { IfOk result (λ start. (bytes : List ℕ) → T.bytes tree.now ≡ Some bytes → IsStart start bytes) }
-{
+fn read_again<'a, T: Opens<'a>>(alloc: Global, tree: &T) -> Result<Tree, TreeError> {
     match tree.open() {
         Ok(file) => Tree::read_from(alloc, Tally::new(file)),
         Err(failure) => {
@@ -489,10 +454,7 @@ fn ended(
     requests: u64,
     hanging: u64,
     cuts: bool,
-) -> Result<Counts, AuditError>
-    ensures { (profile : profile_of) (bytes : List ℕ) → HasFed profile bytes auditor →
-        IfErr result (IsFoundBy profile bytes) }
-{
+) -> Result<Counts, AuditError> {
     let kept = auditor.kept();
     let unanswered = auditor.unanswered();
     if cuts {
@@ -519,13 +481,7 @@ pub(crate) fn feed_rest<R: Source>(
     auditor: &mut Auditor<Judge>,
     left_out: &mut LeftOut,
     records: &mut Reader<R>,
-) -> Result<u64, AuditError>
-    // From wherever nothing was fed.
-    ensures fed { IfOk result (λ _. (start : State) → StandsFor Permitted start [] auditor.old →
-        StandsForSome Permitted start auditor.new) }
-    ensures refused { IfErr result (λ e. (start : State) → StandsFor Permitted start [] auditor.old →
-        RefusesSome Permitted start e) }
-{
+) -> Result<u64, AuditError> {
     left_out.begin();
     let mut requests: u64 = 0;
     'events: while let Some(event) = left_out.next(records)? {
