@@ -1,5 +1,10 @@
 //! Who answers the requests of a session.
-ghost use Rattle.sftp_server.specs.Served.{IsUnused};
+ghost use Rattle.std.specs.Prelude.{◌≡◌, None, true, false, is_some, IfSome};
+ghost use Rattle.sftp_packets.specs.Packets.{HasSpelling};
+ghost use Rattle.sftp_transcript.specs.Transcript.{IsVersion};
+ghost use Rattle.sftp_server.specs.Served.{stream_bytes, IsUnused, Serves};
+ghost use Rattle.sftp_server.specs.Left.{LeavesAt};
+ghost use Rattle.sftp_serving.specs.Runs.{ServesFreely};
 
 use crate::replaying::Recorded;
 use sftp_clock::{Clocked, SystemClock, TimeTable};
@@ -9,6 +14,8 @@ use sftp_server::{Plain, Schedule, SessionEnd, serve_announcing, serve_as, serve
 use sftp_transcript::{Sink, Source, Writer};
 use sftp_tree::Tree;
 use sftp_vary::{Freedoms, Proposed, Style, Variation, Vary, Worded, Words, any_version};
+use sftp_wire::Packet;
+use std::alloc::Global;
 use std::time::Clock;
 
 /// The answerer of sessions some of whose replies are proposed: first those of a record, then varied ones. Each is
@@ -22,7 +29,7 @@ type Dated<'r, C> = Clocked<SystemClock<'r, C>>;
 /// What the replies of a session are like.
 #[derive(Drop)]
 pub(crate) struct Answers {
-    style: Style,
+    pub(crate) style: Style,
     recorded: Recorded,
 }
 
@@ -40,7 +47,9 @@ impl Answers {
     }
 
     /// Whether the session keeps times.
-    pub(crate) fn keep_times(&self) -> bool {
+    pub(crate) fn keep_times(&self) -> bool
+        ensures { self.now.style.has_times ≡ false → result ≡ false }
+    {
         !self.propose() && self.style.has_times
     }
 
@@ -51,6 +60,7 @@ impl Answers {
 }
 
 /// Serves a session with such replies, and returns how it ended, with the times of the entries if it kept some.
+#[tactic(auto, using(crate::proofs::RunLaws::usually))]
 pub(crate) fn served<C: Clock, R: Source, W: Sink, L: Sink, S: Schedule>(
     clock: &C,
     tree: Tree,
@@ -62,16 +72,27 @@ pub(crate) fn served<C: Clock, R: Source, W: Sink, L: Sink, S: Schedule>(
     answers: Answers,
 ) -> (SessionEnd, Option<TimeTable>)
     requires { IsUnused log.old }
+    ensures served { ServesFreely (is_some answers.style.variation) tree
+        (stream_bytes (R.left reader.old) (W.written writer.old) log.old.bytes)
+        (stream_bytes (R.left reader.new) (W.written writer.new) log.new.bytes) result.0 }
+    ensures times { is_some result.1 ≡ is_some times }
 {
     match times {
         Some(times) => {
             let words = words_of(answers);
             serve_dated(clock, tree, times, reader, writer, log, schedule, words)
         }
-        None => (
-            serve_undated(tree, reader, writer, log, schedule, answers),
+        None if answers.propose() => (
+            serve_proposing(tree, reader, writer, log, schedule, answers),
             None,
         ),
+        None => {
+            let words = words_of(answers);
+            (
+                serve_worded(tree, reader, writer, log, schedule, words),
+                None,
+            )
+        }
     }
 }
 
@@ -94,6 +115,11 @@ fn serve_dated<C: Clock, R: Source, W: Sink, L: Sink, S: Schedule>(
     words: Words,
 ) -> (SessionEnd, Option<TimeTable>)
     requires { IsUnused log.old }
+    ensures served { Serves tree (stream_bytes (R.left reader.old) (W.written writer.old) log.old.bytes)
+        (stream_bytes (R.left reader.new) (W.written writer.new) log.new.bytes) result.0.ended }
+    ensures left { LeavesAt tree (stream_bytes (R.left reader.old) (W.written writer.old) log.old.bytes)
+        (stream_bytes (R.left reader.new) (W.written writer.new) log.new.bytes) result.0.ended result.0.left }
+    ensures times { is_some result.1 ≡ true }
 {
     let mut dated = Clocked::new(tree.allocator(), SystemClock::new(clock), times);
     if words.has_any() {
@@ -114,21 +140,21 @@ fn serve_dated<C: Clock, R: Source, W: Sink, L: Sink, S: Schedule>(
     (end, Some(dated.into_table()))
 }
 
-/// Serves a session that keeps no times.
-fn serve_undated<R: Source, W: Sink, L: Sink, S: Schedule>(
+/// Serves a session with the session's own replies, and such words.
+fn serve_worded<R: Source, W: Sink, L: Sink, S: Schedule>(
     tree: Tree,
     reader: &mut R,
     writer: &mut W,
     log: &mut Writer<L>,
     schedule: &mut S,
-    answers: Answers,
+    words: Words,
 ) -> SessionEnd
     requires { IsUnused log.old }
+    ensures served { Serves tree (stream_bytes (R.left reader.old) (W.written writer.old) log.old.bytes)
+        (stream_bytes (R.left reader.new) (W.written writer.new) log.new.bytes) result.ended }
+    ensures left { LeavesAt tree (stream_bytes (R.left reader.old) (W.written writer.old) log.old.bytes)
+        (stream_bytes (R.left reader.new) (W.written writer.new) log.new.bytes) result.ended result.left }
 {
-    if answers.propose() {
-        return serve_proposing(tree, reader, writer, log, schedule, answers);
-    }
-    let words = words_of(answers);
     if words.has_any() {
         return serve_as::<R, W, L, S, SlabTable, Worded<Plain>>(
             tree,
@@ -143,6 +169,7 @@ fn serve_undated<R: Source, W: Sink, L: Sink, S: Schedule>(
 }
 
 /// Serves a session some of whose replies are proposed. Its VERSION has any pairs if they are free.
+#[tactic(auto, using(crate::proofs::RunLaws::usually, crate::proofs::RunLaws::with_version))]
 fn serve_proposing<R: Source, W: Sink, L: Sink, S: Schedule>(
     tree: Tree,
     reader: &mut R,
@@ -152,8 +179,11 @@ fn serve_proposing<R: Source, W: Sink, L: Sink, S: Schedule>(
     answers: Answers,
 ) -> SessionEnd
     requires { IsUnused log.old }
+    ensures { ServesFreely (is_some answers.style.variation) tree
+        (stream_bytes (R.left reader.old) (W.written writer.old) log.old.bytes)
+        (stream_bytes (R.left reader.new) (W.written writer.new) log.new.bytes) result }
 {
-    let version = any_version(tree.allocator(), answers.style.variation);
+    let version = free_version(tree.allocator(), &answers.style);
     let mut answerer = proposing(answers);
     let end = match &version {
         Some(version) => serve_announcing::<R, W, L, S, GivenTable, Proposing>(
@@ -177,6 +207,18 @@ fn serve_proposing<R: Source, W: Sink, L: Sink, S: Schedule>(
     drop(answerer);
     drop(version);
     end
+}
+
+/// The VERSION of a session of this style, if it may be any.
+fn free_version(alloc: Global, style: &Style) -> Option<Packet>
+    ensures version { IfSome result IsVersion }
+    ensures spelled { IfSome result HasSpelling }
+    ensures usual { is_some style.now.variation ≡ false → result ≡ None }
+{
+    match style.variation {
+        Some(variation) => any_version(alloc, Some(variation)),
+        None => None,
+    }
 }
 
 /// The answerer of a session some of whose replies are proposed.

@@ -3,9 +3,12 @@
 #![tactic(auto)]
 
 mod answers;
-mod pieces;
+mod concluding;
+mod places;
 mod replaying;
 mod serving;
+mod starts;
+mod streams;
 mod summaries;
 
-pub use serving::{Unserved, serve};
+pub use serving::serve;

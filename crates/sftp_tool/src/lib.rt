@@ -3,17 +3,16 @@
 #![tactic(auto)]
 
 ghost use Rattle.std.specs.Prelude.{◌≤◌};
+ghost use Rattle.sftp_tool.specs.Performed.{Performs};
 
 mod subcommands;
 
 use sftp_commands::{Faulty, ReadFiles};
 use sftp_faults::Spot;
 pub use sftp_files::System;
-use sftp_files::{Ending, Failure, ServeOptions, report, write_flushed};
+use sftp_files::{Ending, Failure, report, write_flushed};
 use sftp_options::{Request, parse};
 use sftp_progress::Console;
-use sftp_serving::Unserved;
-use sftp_vary::Style;
 use std::fs::Files;
 use std::io::{IsTerminal, Read, Write};
 use std::time::Clock;
@@ -68,32 +67,7 @@ where
     E: Write + IsTerminal,
     ensures { result ≤ 3 }
 {
-    match perform(rt, version, words, input, output, errors) {
-        Ok(ending) => ending.status(),
-        Err(failure) => {
-            let status = failure.status();
-            report(errors, &failure);
-            drop(failure);
-            status
-        }
-    }
-}
-
-fn perform<'a, R, I, O, E>(
-    rt: &R,
-    version: &'a str,
-    words: &'a [String],
-    input: &mut I,
-    output: &mut O,
-    errors: &mut E,
-) -> Result<Ending, Failure<'a>>
-where
-    R: System + Clock,
-    I: Read + IsTerminal,
-    O: Write + IsTerminal,
-    E: Write + IsTerminal,
-{
-    match parse(rt.alloc(), version, words) {
+    let outcome = match parse(rt.alloc(), version, words) {
         Ok(request) => {
             let ending = perform_request(rt, &request, input, output, errors);
             let explained = explained(rt, &request, ending, output, errors);
@@ -101,6 +75,15 @@ where
             explained
         }
         Err(failure) => Err(failure),
+    };
+    match outcome {
+        Ok(ending) => ending.status(),
+        Err(failure) => {
+            let status = failure.status();
+            report(errors, &failure);
+            drop(failure);
+            status
+        }
     }
 }
 
@@ -181,9 +164,13 @@ where
     I: Read + IsTerminal,
     O: Write + IsTerminal,
     E: Write + IsTerminal,
+    ensures { Performs request.now (I.remaining input.old) (I.remaining input.new) (O.contents output.old)
+        (O.contents output.new) result }
 {
     match request {
-        Request::Serve(options, style) => serve(rt, options, *style, input, output, errors),
+        Request::Serve(options, style) => {
+            sftp_serving::serve(rt, options, *style, input, output, errors)
+        }
         Request::Audit(files) => subcommands::audit(rt, files, output, errors),
         Request::Infer(options) => sftp_inferring::infer(rt, options, output, errors),
         Request::Blank { file, keeping } => subcommands::blank(rt, file, *keeping),
@@ -228,24 +215,5 @@ fn console<E>(errors: &mut E, says_progress: bool) -> Console<'_, E> {
     Console {
         errors,
         says_progress,
-    }
-}
-
-/// Serves a session. If its client broke the protocol, `errors` now says how.
-fn serve<'a, R: System + Clock, I: Read + IsTerminal, O: Write, E: Write>(
-    rt: &R,
-    options: &ServeOptions<'a>,
-    style: Style,
-    input: &mut I,
-    output: &mut O,
-    errors: &mut E,
-) -> Result<Ending, Failure<'a>> {
-    match sftp_serving::serve(rt, options, style, input, output, errors) {
-        Ok(ending) => Ok(ending),
-        Err(Unserved::Failed(failure)) => Err(failure),
-        Err(Unserved::Fault(fault)) => {
-            let _ = write_flushed(errors, format_args!("sftpv3: session fault: {fault}\n"));
-            Ok(Ending::Broken)
-        }
     }
 }
