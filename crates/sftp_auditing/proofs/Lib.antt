@@ -1,1 +1,2 @@
 mod AuditLaws
+mod StartLaws

@@ -1,6 +1,7 @@
 -- What an audit of a tree file and of a transcript says, where the bytes of the transcript are known.
 use Rattle.std.specs.Prelude.{◌≡◌, ℕ, List, Result, Ok, Err, MatchResult, Bool, true, false, Option, Some, None}
-use Rattle.std.specs.Prelude.{IfOk}
+use Rattle.std.specs.Prelude.{⊤}
+use Rattle.std.specs.Prelude.{option_map}
 use Rattle.sftp_audit.specs.declared.errors.Refusal.{Refusal}
 use Rattle.sftp_audit.specs.declared.errors.Refusal.TheVariants as refusals
 use Rattle.sftp_audit.specs.declared.errors.AuditError.{AuditError}
@@ -8,22 +9,26 @@ use Rattle.sftp_audit.specs.declared.errors.AuditError.TheVariants as audit_erro
 use Rattle.sftp_files.specs.declared.messages.Ending.{Ending}
 use Rattle.sftp_files.specs.declared.messages.Failure.{Failure}
 use Rattle.sftp_files.specs.declared.messages.Failure.TheVariants as failures
-use Rattle.sftp_files.specs.Failures.{tree_failure, IsTranscriptFailure}
+use Rattle.sftp_files.specs.Failures.{tree_failure, IsTranscriptFailure, IsUnwritten}
 use Rattle.sftp_tree.specs.Tree.{Tree}
 use Rattle.sftp_handles.specs.State.{started, closed_tree}
 use Rattle.sftp_handles.specs.Allowed.{Allowed}
 use Rattle.sftp_profile.specs.declared.profiles.Profile.{Profile}
 use Rattle.sftp_profile.specs.State.{begun}
-use Rattle.sftp_profile.specs.Permitted.{Permitted}
+use Rattle.sftp_profile.specs.Permitted.{Permitted, follows_in}
 use Rattle.sftp_transcript.specs.declared.events.Event.{Event}
 use Rattle.sftp_transcript.specs.Explained.{StepOf}
 use Rattle.sftp_audit.specs.declared.cuts.EndedCut.{EndedCut}
 use Rattle.sftp_audit.specs.declared.trees.Ended.{Ended}
 use Rattle.sftp_audit.specs.Exchanges.{recorded_exchanges}
-use Rattle.sftp_audit.specs.Audit.{AccountsBy, IsFirstFaultBy, IsNoJudgement, request_count}
+use Rattle.sftp_audit.specs.Audit.{AccountsBy, IsFirstFaultBy, IsToldBy, IsNoJudgement, request_count}
 use Rattle.sftp_audit.specs.Cuts.{AccountsCutBy, unanswered_count, unsettled_count}
 use Rattle.sftp_files.specs.declared.messages.Ending.TheVariants as endings
-use Rattle.sftp_verdicts.specs.Verdicts.{AccountOf, HasRun}
+use Rattle.sftp_tree.specs.Picture.{picture}
+use Rattle.sftp_verdicts.specs.Files.{Becomes}
+use Rattle.sftp_verdicts.specs.Verdicts.{AccountOf}
+use Rattle.sftp_verdicts.specs.declared.asked.AuditOptions.{AuditOptions}
+use Rattle.sftp_verdicts.specs.Umasks.{asked_profile}
 
 -- ==== What the error of an audit is to a run.
 
@@ -38,6 +43,10 @@ IsOutcome name audit_errors.NoMemory result = result ≡ Err failures.OutOfMemor
 -- which error of an audit is the first fault of a tree file and a transcript
 abbrev pub FaultOf : Type 1
 FaultOf = List ℕ → List ℕ → AuditError → Type 0
+
+-- whether the judge follows the session of a tree file and a transcript up to where it is refused with this error
+abbrev pub ToldOf : Type 1
+ToldOf = List ℕ → List ℕ → Bool → AuditError → Type 0
 
 -- The tree after the requests before the oldest unanswered one, the number of all requests, of those from that one on,
 -- which are not judged, and of those that are unanswered. In a complete session none is unanswered, so each is judged.
@@ -58,34 +67,58 @@ HasNoRun accounts tree transcript =
     (start : Tree) (events : List Event) (end : Tree) → accounts tree transcript start events end → ⊥
 
 -- A session is accepted where they account for a run, with its result; it is refused where they account for none, with
--- the first fault. An error that is no judgement says nothing.
-abbrev pub IsAudit : AccountOf → FaultOf → List ℕ → Option (List ℕ) → Result EndedCut AuditError → Type 0
-IsAudit accounts faults tree known (Ok ended) =
+-- the first fault, and whether the judge follows the session up to there. An error that is no judgement says nothing.
+abbrev pub IsAudit : AccountOf → FaultOf → ToldOf → List ℕ → Option (List ℕ) → Result EndedCut AuditError → Bool
+    → Type 0
+IsAudit accounts faults tells tree known (Ok ended) follows =
     (transcript : List ℕ) → known ≡ Some transcript
     → (start : Tree) × (events : List Event) × (end : Tree)
     × accounts tree transcript start events end × HasEnd ended events end
-IsAudit accounts faults tree known (Err error) =
+IsAudit accounts faults tells tree known (Err error) follows =
     (IsNoJudgement error → ⊥) → (transcript : List ℕ) → known ≡ Some transcript
-    → HasNoRun accounts tree transcript × faults tree transcript error
+    → HasNoRun accounts tree transcript × faults tree transcript error × tells tree transcript follows error
 
--- the session is accepted where they account for a run, and refused where they account for none
-abbrev pub IsVerdict : AccountOf → List ℕ → Option (List ℕ) → Ending → Type 0
-IsVerdict accounts tree known endings.Done =
-    (transcript : List ℕ) → known ≡ Some transcript → HasRun accounts tree transcript
-IsVerdict accounts tree known endings.Refused =
+-- what is to hold of the tree at the end
+abbrev pub EndOf : Type 1
+EndOf = Tree → Type 0
+
+-- the tree file of the end is stored, where this is what was there before and is there now
+abbrev pub IsStoredEnd : Option (List ℕ) → Option (List ℕ) → EndOf
+IsStoredEnd old new end = Becomes old new (picture end)
+
+-- ---- what the program says of a tree file and a transcript
+
+-- The session is accepted where they account for a run, with an end of which this holds, and it is refused where they
+-- account for none. A file is said to be malformed where that is the first fault. Where the run fails otherwise this
+-- says nothing.
+abbrev pub IsSaid : AccountOf → FaultOf → EndOf → List ℕ → Option (List ℕ) → Result Ending Failure → Type 0
+IsSaid accounts faults OfEnd tree known (Ok endings.Done) =
+    (transcript : List ℕ) → known ≡ Some transcript
+    → (start : Tree) × (events : List Event) × (end : Tree) × accounts tree transcript start events end × OfEnd end
+IsSaid accounts faults OfEnd tree known (Ok endings.Refused) =
     (transcript : List ℕ) → known ≡ Some transcript → HasNoRun accounts tree transcript
-IsVerdict accounts tree known other = ⊥
-
--- ---- what the program says of an audit
+IsSaid accounts faults OfEnd tree known (Ok other) = ⊥
+IsSaid accounts faults OfEnd tree known (Err (failures.Tree error)) =
+    (transcript : List ℕ) → known ≡ Some transcript → faults tree transcript (audit_errors.Tree error)
+IsSaid accounts faults OfEnd tree known (Err (failures.Transcript error)) =
+    (transcript : List ℕ) → known ≡ Some transcript → faults tree transcript (audit_errors.Transcript error)
+IsSaid accounts faults OfEnd tree known (Err failure) = ⊤
 
 -- The session is refused where the error is a judgement.
 abbrev pub IsReportOfError : AuditError → Ending → Type 0
 IsReportOfError error ending = (ending ≡ endings.Refused) × (IsNoJudgement error → ⊥)
 
--- The session is accepted or refused as by the audit. Where the run fails this says nothing.
-abbrev pub IsReportOf : Result EndedCut AuditError → Result Ending Failure → Type 0
-IsReportOf (Ok ended) result = IfOk result (λ ending. ending ≡ endings.Done)
-IsReportOf (Err error) result = IfOk result (IsReportOfError error)
+-- A file is said to be malformed where the error is that, and a judgement.
+abbrev pub IsFailureOf : AuditError → Failure → Type 0
+IsFailureOf error (failures.Tree fault) = (error ≡ audit_errors.Tree fault) × (IsNoJudgement error → ⊥)
+IsFailureOf error (failures.Transcript fault) = (error ≡ audit_errors.Transcript fault) × (IsNoJudgement error → ⊥)
+IsFailureOf error other = ⊤
+
+-- The session is accepted or refused as by the audit, and its end is as it is to be.
+abbrev pub IsReportOf : EndOf → Result EndedCut AuditError → Result Ending Failure → Type 0
+IsReportOf OfEnd (Ok ended) result =
+    MatchResult result (λ ending. (ending ≡ endings.Done) × OfEnd ended.tree) IsUnwritten
+IsReportOf OfEnd (Err error) result = MatchResult result (IsReportOfError error) (IsFailureOf error)
 
 -- ---- what the options ask for
 
@@ -103,8 +136,20 @@ abbrev pub fault_asked : Option Profile → FaultOf
 fault_asked None = IsFirstFaultBy Allowed started
 fault_asked (Some profile) = IsFirstFaultBy Permitted (begun profile)
 
-abbrev pub IsResultAsked : Option Profile → Bool → List ℕ → Option (List ℕ) → Result EndedCut AuditError → Type 0
-IsResultAsked profile cuts = IsAudit (accounts_asked profile cuts) (fault_asked profile)
+-- strictly each session is followed
+abbrev pub told_asked : Option Profile → ToldOf
+told_asked None = IsToldBy Allowed (λ s request reply. true) started
+told_asked (Some profile) =
+    IsToldBy Permitted (λ s request reply. follows_in s request.ask reply.answer) (begun profile)
 
-abbrev pub IsVerdictAsked : Option Profile → Bool → List ℕ → Option (List ℕ) → Ending → Type 0
-IsVerdictAsked profile cuts = IsVerdict (accounts_asked profile cuts)
+abbrev pub IsResultAsked : Option Profile → Bool → List ℕ → Option (List ℕ) → Result EndedCut AuditError → Bool → Type 0
+IsResultAsked profile cuts = IsAudit (accounts_asked profile cuts) (fault_asked profile) (told_asked profile)
+
+abbrev pub IsSaidAsked : Option Profile → Bool → EndOf → List ℕ → Option (List ℕ) → Result Ending Failure → Type 0
+IsSaidAsked profile cuts = IsSaid (accounts_asked profile cuts) (fault_asked profile)
+
+-- the options with the umask in their profile
+abbrev pub with_umask : AuditOptions → AuditOptions
+with_umask files = record files {
+  profile = asked_profile files.profile (option_map (λ given. given.now) files.umask);
+}

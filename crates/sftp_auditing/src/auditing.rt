@@ -1,30 +1,33 @@
 //! The subcommand `audit`: the session of a transcript, judged with the tree of a file.
-ghost use Rattle.std.specs.Prelude.{◌≡◌, ◌≤◌, ℕ, List, Option, Some, IfOk, IfErr};
-ghost use Rattle.sftp_tree.specs.Picture.{IsStart};
-ghost use Rattle.sftp_audit.specs.Audit.{IsFirstFaultBy, IsNew};
+ghost use Rattle.std.specs.Prelude.{◌≡◌, ◌≤◌, ℕ, List, Option, Some, IfOk, IfErr, MatchResult};
+ghost use Rattle.sftp_tree.specs.Picture.{IsStart, picture};
+ghost use Rattle.sftp_audit.specs.Audit.{IsFirstFaultBy, IsNew, IsToldBy};
 ghost use Rattle.sftp_files.specs.declared.messages.Ending.TheVariants as endings;
-ghost use Rattle.sftp_files.specs.Failures.{IsUnwritten};
+ghost use Rattle.sftp_files.specs.Failures.{IsUnwritten, IsUsage};
 ghost use Rattle.sftp_files.specs.Failures.{failure_status};
+ghost use Rattle.sftp_verdicts.specs.Files.{IsWithin, Becomes};
 ghost use Rattle.sftp_verdicts.specs.Verdicts.{IsAuditStatus};
-ghost use Rattle.sftp_auditing.specs.Audits.{accounts_by, uncut};
-ghost use Rattle.sftp_auditing.specs.Audits.{IsOutcome, IsAudit, IsResultAsked, IsVerdictAsked};
-ghost use Rattle.sftp_auditing.specs.Audits.{IsReportOf, IsReportOfError};
+ghost use Rattle.sftp_auditing.specs.Audits.{accounts_by, uncut, with_umask};
+ghost use Rattle.sftp_auditing.specs.Audits.{IsOutcome, IsAudit, IsResultAsked, IsSaidAsked};
+ghost use Rattle.sftp_auditing.specs.Audits.{IsReportOf, IsReportOfError, IsFailureOf, IsStoredEnd};
 
 use crate::counts::{counts_of, say_accepted};
 use crate::explaining::explain;
 use crate::going_on::report_findings;
+use crate::starts::start_in_view;
 use crate::verdict_objects::print_refused;
 use sftp_audit::{AuditError, Ended, EndedCut, Refusal, audit_cut_tree_by, audit_tree_by};
-use sftp_commands::{LeftOut, is_lost, read_tree_in_view, write_tree};
-use sftp_files::{BoundedRecords, Ending, Failure, Meter, Repeatable, System, open, print};
+use sftp_commands::{LeftOut, is_lost};
+use sftp_files::{BoundedRecords, Ending, Failure, Meter, Repeatable, System, print};
 use sftp_handles::{GivenTable, Session};
 use sftp_judges::Judges;
 use sftp_profile::{Judge, Profile};
 use sftp_progress::{Progress, Task, Tracked};
 use sftp_transcript::{Reader, Source, Tally};
 use sftp_tree::Tree;
-use sftp_treefile::TreeError;
-use sftp_verdicts::{AuditOptions, TRANSCRIPT_LOST, umask_of, with_umask};
+use sftp_verdicts::{
+    AuditOptions, NamedFile, Opens, StoredFile, Stores, TRANSCRIPT_LOST, asked_profile,
+};
 use std::alloc::Global;
 use std::fs::Files;
 use std::io::{IsTerminal, Read, Write};
@@ -34,8 +37,7 @@ use std::time::Clock;
 const LACKS_KEEP_GOING: &str =
     "the following required arguments were not provided:\n  --keep-going";
 
-/// Audits a session. The tree file is read and the transcript is opened before either is judged. The transcript is read
-/// as a stream.
+/// Audits a session.
 ///
 /// # Errors
 ///
@@ -55,32 +57,28 @@ pub fn audit<'a, R: System + Clock, O: Write, E: Write + IsTerminal>(
     if files.most.is_some() && !files.keeps_going {
         return Err(Failure::of_misuse(rt.alloc(), LACKS_KEEP_GOING));
     }
-    let umask = umask_of(rt.alloc(), files.umask)?;
-    let mut options = *files;
-    options.profile = with_umask(files.profile, umask);
-    audit_by(rt, &options, output, errors)
-}
-
-/// Audits a session by a profile with its umask.
-fn audit_by<'a, R: System + Clock, O: Write, E: Write + IsTerminal>(
-    rt: &R,
-    files: &AuditOptions<'a>,
-    output: &mut O,
-    errors: &mut E,
-) -> Result<Ending, Failure<'a>>
-    ensures { IsAuditStatus result }
-{
-    if !files.explains && !files.keeps_going {
-        return audit_at(rt, files, files.tree, output, errors);
+    let asked = asked_of(rt.alloc(), files)?;
+    if !asked.explains && !asked.keeps_going {
+        return audit_at(rt, &asked, asked.tree, output, errors);
     }
-    let tree = Repeatable::of(rt, files.tree, files.memory)?;
-    let ending = audit_at(rt, files, tree.path(), output, errors);
+    let tree = Repeatable::of(rt, asked.tree, asked.memory)?;
+    let ending = audit_at(rt, &asked, tree.path(), output, errors);
     drop(tree);
     ending
 }
 
-/// Audits a session whose tree file is read at this path. What explains a refusal, and what goes on behind it, reads it
-/// there again.
+/// The options with the umask in their profile.
+fn asked_of<'a>(alloc: Global, files: &AuditOptions<'a>) -> Result<AuditOptions<'a>, Failure<'a>>
+    ensures ok { IfOk result (λ asked. asked ≡ with_umask files.now) }
+    ensures err { IfErr result IsUsage }
+{
+    let mut asked = *files;
+    asked.profile = asked_profile(alloc, files.profile, files.umask)?;
+    Ok(asked)
+}
+
+/// Audits the session of the files that have these names. The tree file is read at this path. What explains a refusal,
+/// and what goes on behind it, reads it there again.
 fn audit_at<'a, R: System + Clock, O: Write, E: Write + IsTerminal>(
     rt: &R,
     files: &AuditOptions<'a>,
@@ -90,26 +88,45 @@ fn audit_at<'a, R: System + Clock, O: Write, E: Write + IsTerminal>(
 ) -> Result<Ending, Failure<'a>>
     ensures { IsAuditStatus result }
 {
-    let is_asked = files.says_progress;
-    let start = read_tree_in_view(rt, files.tree, path, files.memory, is_asked, errors)?;
-    audit_from(rt, files, start, path, output, errors)
+    let tree = NamedFile::new(rt, path, files.tree);
+    let transcript = NamedFile::new(rt, files.transcript, files.transcript);
+    let mut out = StoredFile::new(rt, files.out, files.keeping);
+    let ending = audit_files(rt, files, &tree, &transcript, &mut out, output, errors);
+    drop(out);
+    drop(transcript);
+    drop(tree);
+    ending
 }
 
-/// Audits a session that starts from this tree, unless its file has a fault. From here on `kept` is the path at which
-/// the tree is read again if an explanation is asked for, or what else is wrong.
-fn audit_from<'a, R: System + Clock, O: Write, E: Write + IsTerminal>(
+/// Audits the session of these files. The tree file is read and the transcript is opened before either is judged; the
+/// transcript is read as a stream. The tree file is read again if an explanation is asked for, or what else is wrong.
+fn audit_files<'a, T, S, K, R, O, E>(
     rt: &R,
     files: &AuditOptions<'a>,
-    start: Result<Tree, TreeError>,
-    kept: &str,
+    tree: &T,
+    transcript: &S,
+    out: &mut K,
     output: &mut O,
     errors: &mut E,
 ) -> Result<Ending, Failure<'a>>
-    ensures { IsAuditStatus result }
+where
+    T: Opens<'a>,
+    S: Opens<'a>,
+    K: Stores<'a>,
+    R: System + Clock,
+    O: Write,
+    E: Write + IsTerminal,
+    // What is said of the session is the verdict on these bytes, and what is stored is the tree at its end.
+    ensures verdict { (bytes : List ℕ) → T.bytes tree.now ≡ Some bytes → IsWithin files.now.memory bytes →
+        IsSaidAsked files.now.profile files.now.cuts (IsStoredEnd (K.stored out.old) (K.stored out.new))
+        bytes (S.bytes transcript.now) result }
+    ensures status { IsAuditStatus result }
 {
-    match open(rt, files.transcript) {
+    let file = tree.open()?;
+    let start = start_in_view(rt, files, tree.path(), file, errors)?;
+    match transcript.open() {
         Ok(transcript) => match start {
-            Ok(start) => audit_transcript(rt, files, start, kept, transcript, output, errors),
+            Ok(start) => audit_transcript(rt, files, start, tree, transcript, out, output, errors),
             Err(error) => {
                 drop(transcript);
                 Err(Failure::from(error))
@@ -123,44 +140,62 @@ fn audit_from<'a, R: System + Clock, O: Write, E: Write + IsTerminal>(
 }
 
 /// Audits the session of this transcript, within the limit on memory if there is one.
-fn audit_transcript<'a, F: Read + Drop, R: System + Clock, O: Write, E: Write + IsTerminal>(
+fn audit_transcript<'a, T, F, K, R, O, E>(
     rt: &R,
     files: &AuditOptions<'a>,
     start: Tree,
-    kept: &str,
+    tree: &T,
     transcript: F,
+    out: &mut K,
     output: &mut O,
     errors: &mut E,
 ) -> Result<Ending, Failure<'a>>
+where
+    T: Opens<'a>,
+    F: Read + Drop,
+    K: Stores<'a>,
+    R: System + Clock,
+    O: Write,
+    E: Write + IsTerminal,
     // The verdict on each tree file of this tree.
-    ensures verdict { (tree : List ℕ) → IsStart start tree →
-        IfOk result (IsVerdictAsked files.now.profile files.now.cuts tree (F.remaining transcript)) }
+    ensures verdict { (bytes : List ℕ) → IsStart start bytes →
+        IsSaidAsked files.now.profile files.now.cuts (IsStoredEnd (K.stored out.old) (K.stored out.new))
+        bytes (F.remaining transcript) result }
     ensures status { IsAuditStatus result }
 {
     match files.memory {
-        Some(_) => audit_within(rt, files, start, kept, transcript, output, errors),
-        None => judge_and_report(rt, files, start, kept, transcript, output, errors),
+        Some(_) => audit_within(rt, files, start, tree, transcript, out, output, errors),
+        None => judge_and_report(rt, files, start, tree, transcript, out, output, errors),
     }
 }
 
 /// Audits the session of this transcript within the limit on memory.
-fn audit_within<'a, F: Read + Drop, R: System + Clock, O: Write, E: Write + IsTerminal>(
+fn audit_within<'a, T, F, K, R, O, E>(
     rt: &R,
     files: &AuditOptions<'a>,
     start: Tree,
-    kept: &str,
+    tree: &T,
     transcript: F,
+    out: &mut K,
     output: &mut O,
     errors: &mut E,
 ) -> Result<Ending, Failure<'a>>
+where
+    T: Opens<'a>,
+    F: Read + Drop,
+    K: Stores<'a>,
+    R: System + Clock,
+    O: Write,
+    E: Write + IsTerminal,
     // The verdict on each tree file of this tree.
-    ensures verdict { (tree : List ℕ) → IsStart start tree →
-        IfOk result (IsVerdictAsked files.now.profile files.now.cuts tree (F.remaining transcript)) }
+    ensures verdict { (bytes : List ℕ) → IsStart start bytes →
+        IsSaidAsked files.now.profile files.now.cuts (IsStoredEnd (K.stored out.old) (K.stored out.new))
+        bytes (F.remaining transcript) result }
     ensures status { IsAuditStatus result }
 {
     let mut meter = Meter::new(rt, files.memory)?;
     let bounded = BoundedRecords::new(rt.alloc(), transcript, &mut meter)?;
-    match judge_and_report(rt, files, start, kept, bounded, output, errors) {
+    match judge_and_report(rt, files, start, tree, bounded, out, output, errors) {
         Err(_) if meter.is_over() => Err(Failure::OverLimit(files.transcript)),
         ending => ending,
     }
@@ -168,43 +203,60 @@ fn audit_within<'a, F: Read + Drop, R: System + Clock, O: Write, E: Write + IsTe
 
 /// Audits the session of this transcript and says what came of it. Without an option of a profile the session is judged
 /// strictly, and without `--cut` it has to be complete.
-fn judge_and_report<'a, F: Read + Drop, R: System + Clock, O: Write, E: Write + IsTerminal>(
+fn judge_and_report<'a, T, F, K, R, O, E>(
     rt: &R,
     files: &AuditOptions<'a>,
     start: Tree,
-    kept: &str,
+    tree: &T,
     transcript: F,
+    out: &mut K,
     output: &mut O,
     errors: &mut E,
 ) -> Result<Ending, Failure<'a>>
+where
+    T: Opens<'a>,
+    F: Read + Drop,
+    K: Stores<'a>,
+    R: System + Clock,
+    O: Write,
+    E: Write + IsTerminal,
     // The verdict on each tree file of this tree.
-    ensures verdict { (tree : List ℕ) → IsStart start tree →
-        IfOk result (IsVerdictAsked files.now.profile files.now.cuts tree (F.remaining transcript)) }
+    ensures verdict { (bytes : List ℕ) → IsStart start bytes →
+        IsSaidAsked files.now.profile files.now.cuts (IsStoredEnd (K.stored out.old) (K.stored out.new))
+        bytes (F.remaining transcript) result }
     ensures status { IsAuditStatus result }
 {
-    let mut follows = true;
-    let judged = judge_in_view(rt, files, start, transcript, &mut follows, errors);
-    let ending = report(rt, files, kept, &judged, follows, output, errors);
+    let judged = judge_in_view(rt, files, start, transcript, errors);
+    let ending = report(rt, files, tree, &judged, out, output, errors);
     drop(judged);
     ending
 }
 
+/// What an audit gave, and whether the judge follows the session up to where it is refused. Strictly each session is
+/// followed.
+#[derive(Drop)]
+struct Judged {
+    ended: Result<EndedCut, AuditError>,
+    follows: bool,
+}
+
 /// Says what came of the audit of a session of these files.
-fn report<'a, R: System, O: Write, E: Write>(
+fn report<'a, T: Opens<'a>, K: Stores<'a>, R: System, O: Write, E: Write>(
     rt: &R,
     files: &AuditOptions<'a>,
-    kept: &str,
-    judged: &Result<EndedCut, AuditError>,
-    follows: bool,
+    tree: &T,
+    judged: &Judged,
+    out: &mut K,
     output: &mut O,
     errors: &mut E,
 ) -> Result<Ending, Failure<'a>>
-    ensures of_audit { IsReportOf judged.now result }
+    ensures of_audit { IsReportOf (IsStoredEnd (K.stored out.old) (K.stored out.new))
+        judged.now.ended result }
     ensures status { IsAuditStatus result }
 {
-    match judged {
-        Ok(ended) => accept(rt, ended, files, output),
-        Err(error) => report_error(rt, files, kept, *error, follows, output, errors),
+    match &judged.ended {
+        Ok(ended) => accept(ended, files, out, output),
+        Err(error) => report_error(rt, files, tree, *error, judged.follows, output, errors),
     }
 }
 
@@ -216,29 +268,29 @@ pub(crate) struct Finding {
 }
 
 /// Says why a session of these files is not accepted.
-fn report_error<'a, R: System, O: Write, E: Write>(
+fn report_error<'a, T: Opens<'a>, R: System, O: Write, E: Write>(
     rt: &R,
     files: &AuditOptions<'a>,
-    kept: &str,
+    tree: &T,
     error: AuditError,
     follows: bool,
     output: &mut O,
     errors: &mut E,
 ) -> Result<Ending, Failure<'a>>
-    ensures of_error { IfOk result (IsReportOfError error) }
+    ensures of_error { MatchResult result (IsReportOfError error) (IsFailureOf error) }
     ensures status { IsAuditStatus result }
 {
     match refusal_or_failure(error, files.transcript) {
-        Ok(refusal) => report_refusal(rt, files, kept, refusal, follows, output, errors),
+        Ok(refusal) => report_refusal(rt, files, tree, refusal, follows, output, errors),
         Err(failure) => Err(failure),
     }
 }
 
 /// Says why a session of these files is refused, and what else is asked for.
-fn report_refusal<'a, R: System, O: Write, E: Write>(
+fn report_refusal<'a, T: Opens<'a>, R: System, O: Write, E: Write>(
     rt: &R,
     files: &AuditOptions<'a>,
-    kept: &str,
+    tree: &T,
     refusal: Refusal,
     follows: bool,
     output: &mut O,
@@ -249,19 +301,19 @@ fn report_refusal<'a, R: System, O: Write, E: Write>(
 {
     let finding = Finding { refusal, follows };
     if files.keeps_going {
-        return report_findings(rt, files, kept, finding, output, errors);
+        return report_findings(rt, files, tree, finding, output, errors);
     }
     let mut left_out = LeftOut::new(rt.alloc());
-    let ending = report_finding(rt, files, kept, &mut left_out, finding, output, errors);
+    let ending = report_finding(rt, files, tree, &mut left_out, finding, output, errors);
     drop(left_out);
     ending
 }
 
 /// Says why a session of these files is refused where this is left out of it, and explains it if that is asked for.
-pub(crate) fn report_finding<'a, R: Files + AllocGlobal, O: Write, E: Write>(
+pub(crate) fn report_finding<'a, T: Opens<'a>, R: Files + AllocGlobal, O: Write, E: Write>(
     rt: &R,
     files: &AuditOptions<'a>,
-    tree: &str,
+    tree: &T,
     left_out: &mut LeftOut,
     finding: Finding,
     output: &mut O,
@@ -271,11 +323,11 @@ pub(crate) fn report_finding<'a, R: Files + AllocGlobal, O: Write, E: Write>(
     ensures err { IfErr result IsUnwritten }
 {
     if files.explains && files.is_json {
-        return refuse_as_object(rt, files, tree, left_out, finding, output);
+        return refuse_as_object(rt, files, tree.path(), left_out, finding, output);
     }
     let ending = refuse(files, finding, output);
     if files.explains && ending.is_ok() {
-        explain(rt, files, tree, left_out, finding.refusal, errors);
+        explain(rt, files, tree.path(), left_out, finding.refusal, errors);
     }
     ending
 }
@@ -310,45 +362,35 @@ fn judge_in_view<F: Read + Drop, R: System + Clock, E: Write + IsTerminal>(
     files: &AuditOptions<'_>,
     start: Tree,
     transcript: F,
-    follows: &mut bool,
     errors: &mut E,
-) -> Result<EndedCut, AuditError>
+) -> Judged
     ensures { (tree : List ℕ) → IsStart start tree →
-        IsResultAsked files.now.profile files.now.cuts tree (F.remaining transcript) result }
+        IsResultAsked files.now.profile files.now.cuts tree (F.remaining transcript) result.ended result.follows }
 {
     let is_asked = files.says_progress;
     let file = Some(files.transcript);
     let mut progress = Progress::new(rt, errors, is_asked, Task::ReadTranscript, file);
     let tracked = Tracked::new(transcript, &mut progress);
-    let judged = judge(
-        rt.alloc(),
-        files.profile,
-        files.cuts,
-        start,
-        tracked,
-        follows,
-    );
+    let judged = judge(rt.alloc(), files.profile, files.cuts, start, tracked);
     progress.end();
     judged
 }
 
 /// Audits the session of a transcript that is read as a stream, complete or with `cuts` cut too: strictly, or under a
-/// profile. `follows` is set to whether the profile follows it up to where it is refused; strictly each session is
-/// followed.
+/// profile.
 fn judge<F: Read + Drop>(
     alloc: Global,
     by: Option<Profile>,
     cuts: bool,
     start: Tree,
     transcript: F,
-    follows: &mut bool,
-) -> Result<EndedCut, AuditError>
+) -> Judged
     ensures { (tree : List ℕ) → IsStart start tree →
-        IsResultAsked by cuts tree (F.remaining transcript) result }
+        IsResultAsked by cuts tree (F.remaining transcript) result.ended result.follows }
 {
     match by {
-        None => judge_by::<Session<GivenTable>, F>(alloc, (), cuts, start, transcript, follows),
-        Some(profile) => judge_by::<Judge, F>(alloc, profile, cuts, start, transcript, follows),
+        None => judge_by::<Session<GivenTable>, F>(alloc, (), cuts, start, transcript),
+        Some(profile) => judge_by::<Judge, F>(alloc, profile, cuts, start, transcript),
     }
 }
 
@@ -359,21 +401,25 @@ fn judge_by<J: Judges, F: Read + Drop>(
     cuts: bool,
     start: Tree,
     transcript: F,
-    follows: &mut bool,
-) -> Result<EndedCut, AuditError>
+) -> Judged
     ensures { (tree : List ℕ) → IsStart start tree →
         IsAudit (accounts_by cuts J.allowed (J.begun by) J.closed) (IsFirstFaultBy J.allowed (J.begun by))
-        tree (F.remaining transcript) result }
+        (IsToldBy J.allowed J.follows (J.begun by)) tree (F.remaining transcript) result.ended result.follows }
 {
     match Reader::new(alloc, Tally::new(transcript)) {
         Ok(mut records) => {
-            let judged = judge_records::<J, Tally<F>>(by, cuts, start, &mut records, follows);
+            let mut follows = true;
+            let ended = judge_records::<J, Tally<F>>(by, cuts, start, &mut records, &mut follows);
             drop(records);
-            judged
+            Judged { ended, follows }
         }
         Err(error) => {
             drop(start);
-            Err(AuditError::from(error))
+            let ended = Err(AuditError::from(error));
+            Judged {
+                ended,
+                follows: true,
+            }
         }
     }
 }
@@ -390,7 +436,7 @@ fn judge_records<J: Judges, R: Source>(
     ensures { (tree : List ℕ) → IsStart start tree → (known : Option (List ℕ)) →
         ((bytes : List ℕ) → known ≡ Some bytes → IsNew bytes records.old) →
         IsAudit (accounts_by cuts J.allowed (J.begun by) J.closed) (IsFirstFaultBy J.allowed (J.begun by))
-        tree known result }
+        (IsToldBy J.allowed J.follows (J.begun by)) tree known result follows.new }
 {
     if cuts {
         audit_cut_tree_by::<J, R>(by, start, records, follows)
@@ -414,29 +460,20 @@ fn uncut(audited: Result<Ended, AuditError>) -> Result<EndedCut, AuditError>
     }
 }
 
-/// Writes the tree before the oldest unanswered request, if a file is named for it, and then says that the session is
-/// accepted, and how much of it was not judged. A complete session gets the same line with `--cut` as without.
-fn accept<'a, R: System, O: Write>(
-    rt: &R,
+/// Stores the tree before the oldest unanswered request, and then says that the session is accepted, and how much of it
+/// was not judged. A complete session gets the same line with `--cut` as without.
+fn accept<'a, K: Stores<'a>, O: Write>(
     ended: &EndedCut,
     files: &AuditOptions<'a>,
+    out: &mut K,
     output: &mut O,
 ) -> Result<Ending, Failure<'a>>
-    ensures ok { IfOk result (λ ending. ending ≡ endings.Done) }
+    ensures ok { IfOk result (λ ending. (ending ≡ endings.Done)
+        × Becomes (K.stored out.old) (K.stored out.new) (picture ended.now.tree)) }
     ensures err { IfErr result IsUnwritten }
 {
-    keep_end(rt, files, &ended.tree)?;
+    out.store_tree(&ended.tree)?;
     say_accepted(counts_of(ended), files, output)
-}
-
-/// Writes the final tree of an accepted session, if a file is named for it.
-fn keep_end<'a, R: System>(rt: &R, files: &AuditOptions<'a>, tree: &Tree) -> Result<(), Failure<'a>>
-    ensures { IfErr result IsUnwritten }
-{
-    match files.out {
-        Some(name) => write_tree(rt, name, files.keeping, tree),
-        None => Ok(()),
-    }
 }
 
 /// Says why the session is refused, as a line or as a JSON object: `NotModelled` where the profile does not follow a

@@ -9,14 +9,16 @@ use crate::totals::{End, Reason, Total, print_total};
 use sftp_audit::{AuditError, Auditor, Refusal};
 use sftp_commands::{
     Asked, Bearing, LeftOut, Outcome, Replied, find_reply, is_harmless, is_request, last_asked,
-    read_tree_again,
 };
 use sftp_files::{BoundedRecords, Ending, Failure, Meter, System, open};
 use sftp_profile::{Judge, Profile};
 use sftp_show::{Record, find_record};
 use sftp_transcript::{Reader, Source, Tally, TranscriptError};
-use sftp_verdicts::{AuditOptions, numbered, record_of};
+use sftp_tree::Tree;
+use sftp_treefile::TreeError;
+use sftp_verdicts::{AuditOptions, Opens, numbered, record_of};
 use sftp_wire::{Answer, asked_handle};
+use std::alloc::Global;
 use std::fs::Files;
 use std::io::{Read, Write};
 
@@ -25,10 +27,10 @@ const MOST: u64 = 100;
 
 /// Says why a session of these files is refused, and all else that is wrong with it behind replies that changed
 /// nothing, as if these and their requests were not there. Each further finding is that of a further audit.
-pub(crate) fn report_findings<'a, R: System, O: Write, E: Write>(
+pub(crate) fn report_findings<'a, T: Opens<'a>, R: System, O: Write, E: Write>(
     rt: &R,
     files: &AuditOptions<'a>,
-    tree: &str,
+    tree: &T,
     first: Finding,
     output: &mut O,
     errors: &mut E,
@@ -43,10 +45,10 @@ pub(crate) fn report_findings<'a, R: System, O: Write, E: Write>(
 }
 
 /// Says each finding, and returns how many there are and why there are no more.
-fn report_each<'a, R: System, O: Write, E: Write>(
+fn report_each<'a, T: Opens<'a>, R: System, O: Write, E: Write>(
     rt: &R,
     files: &AuditOptions<'a>,
-    tree: &str,
+    tree: &T,
     left_out: &mut LeftOut,
     first: Finding,
     output: &mut O,
@@ -74,10 +76,10 @@ fn report_each<'a, R: System, O: Write, E: Write>(
 }
 
 /// What an audit finds behind this finding, or why it finds no more.
-fn next_finding<R: System>(
+fn next_finding<'a, T: Opens<'a>, R: System>(
     rt: &R,
-    files: &AuditOptions<'_>,
-    tree: &str,
+    files: &AuditOptions<'a>,
+    tree: &T,
     left_out: &mut LeftOut,
     finding: Finding,
 ) -> Result<Finding, End> {
@@ -274,23 +276,22 @@ enum Halt {
     Ended(End),
 }
 
-impl From<AuditError> for Halt {
-    fn from(error: AuditError) -> Halt {
-        match error {
-            AuditError::Refused(Refusal::NoMemory) => Halt::Ended(End::OutOfMemory),
-            AuditError::Refused(refusal) => Halt::Refused(refusal),
-            AuditError::Transcript(fault) => Halt::Ended(End::from(fault)),
-            AuditError::Tree(_) => Halt::Ended(End::OtherTranscript),
-            AuditError::NoMemory => Halt::Ended(End::OutOfMemory),
-        }
+/// What the error of an audit says of what is not left out.
+fn halt_of(error: AuditError) -> Halt {
+    match error {
+        AuditError::Refused(Refusal::NoMemory) => Halt::Ended(End::OutOfMemory),
+        AuditError::Refused(refusal) => Halt::Refused(refusal),
+        AuditError::Transcript(fault) => Halt::Ended(End::from(fault)),
+        AuditError::Tree(_) => Halt::Ended(End::OtherTranscript),
+        AuditError::NoMemory => Halt::Ended(End::OutOfMemory),
     }
 }
 
 /// What an audit finds in all that is not left out, or why it finds nothing.
-fn judge_rest<R: System>(
+fn judge_rest<'a, T: Opens<'a>, R: System>(
     rt: &R,
-    files: &AuditOptions<'_>,
-    tree: &str,
+    files: &AuditOptions<'a>,
+    tree: &T,
     left_out: &mut LeftOut,
 ) -> Result<Finding, End> {
     let mut follows = true;
@@ -326,10 +327,10 @@ fn number_of<R: Files + AllocGlobal>(
 
 /// Audits what is not left out of the session of these files, within the limit on memory if there is one. `follows` is
 /// set to whether the profile follows it up to where it is refused.
-fn judge_file<R: System>(
+fn judge_file<'a, T: Opens<'a>, R: System>(
     rt: &R,
-    files: &AuditOptions<'_>,
-    tree: &str,
+    files: &AuditOptions<'a>,
+    tree: &T,
     left_out: &mut LeftOut,
     follows: &mut bool,
 ) -> Result<Counts, Halt> {
@@ -339,7 +340,7 @@ fn judge_file<R: System>(
     };
     match Meter::new(rt, files.memory) {
         Ok(mut meter) => {
-            let judged = judge_source(rt, files, tree, left_out, file, &mut meter, follows);
+            let judged = judge_source(rt.alloc(), files, tree, left_out, file, &mut meter, follows);
             let is_over = meter.is_over();
             drop(meter);
             halted(judged, is_over)
@@ -358,7 +359,7 @@ fn halted(judged: Result<Counts, AuditError>, is_over: bool) -> Result<Counts, H
     }
     match judged {
         Ok(counts) => Ok(counts),
-        Err(error) => Err(Halt::from(error)),
+        Err(error) => Err(halt_of(error)),
     }
 }
 
@@ -371,19 +372,19 @@ fn opened<F>(file: Result<F, Failure<'_>>) -> Result<F, End> {
 }
 
 /// Audits what is not left out of the session of a transcript that is read as a stream.
-fn judge_source<R: Files + AllocGlobal, F: Read + Drop>(
-    rt: &R,
-    files: &AuditOptions<'_>,
-    tree: &str,
+fn judge_source<'a, T: Opens<'a>, F: Read + Drop>(
+    alloc: Global,
+    files: &AuditOptions<'a>,
+    tree: &T,
     left_out: &mut LeftOut,
     transcript: F,
     meter: &mut Meter,
     follows: &mut bool,
 ) -> Result<Counts, AuditError> {
-    match BoundedRecords::new(rt.alloc(), transcript, meter) {
-        Ok(bounded) => match Reader::new(rt.alloc(), Tally::new(bounded)) {
+    match BoundedRecords::new(alloc, transcript, meter) {
+        Ok(bounded) => match Reader::new(alloc, Tally::new(bounded)) {
             Ok(mut records) => {
-                let judged = judge_records(rt, files, tree, left_out, &mut records, follows);
+                let judged = judge_records(alloc, files, tree, left_out, &mut records, follows);
                 drop(records);
                 judged
             }
@@ -394,15 +395,15 @@ fn judge_source<R: Files + AllocGlobal, F: Read + Drop>(
 }
 
 /// Audits what is not left out of the session of a reader that has read nothing yet.
-fn judge_records<R: Files + AllocGlobal, T: Source>(
-    rt: &R,
-    files: &AuditOptions<'_>,
-    tree: &str,
+fn judge_records<'a, T: Opens<'a>, R: Source>(
+    alloc: Global,
+    files: &AuditOptions<'a>,
+    tree: &T,
     left_out: &mut LeftOut,
-    records: &mut Reader<T>,
+    records: &mut Reader<R>,
     follows: &mut bool,
 ) -> Result<Counts, AuditError> {
-    match new_auditor(rt, files, tree) {
+    match new_auditor(alloc, files, tree) {
         Ok(mut auditor) => match feed_rest(&mut auditor, left_out, records) {
             Ok(requests) => ended(auditor, requests, left_out.hanging(), files.cuts),
             Err(error) => {
@@ -416,18 +417,33 @@ fn judge_records<R: Files + AllocGlobal, T: Source>(
 }
 
 /// An auditor of a session that begins on this tree.
-fn new_auditor<R: Files + AllocGlobal>(
-    rt: &R,
-    files: &AuditOptions<'_>,
-    tree: &str,
+fn new_auditor<'a, T: Opens<'a>>(
+    alloc: Global,
+    files: &AuditOptions<'a>,
+    tree: &T,
 ) -> Result<Auditor<Judge>, AuditError> {
     let profile = files.profile.unwrap_or(Profile::strict());
-    match read_tree_again(rt, tree) {
+    match read_again(alloc, tree) {
         Ok(tree) => match Auditor::<Judge>::by(profile, tree) {
             Ok(auditor) => Ok(auditor),
             Err(_no_memory) => Err(AuditError::NoMemory),
         },
         Err(error) => Err(AuditError::from(error)),
+    }
+}
+
+/// The tree of a tree file that is read once more.
+///
+/// # Errors
+///
+/// The first fault of the file; `Io` at no entry if it cannot be opened.
+fn read_again<'a, T: Opens<'a>>(alloc: Global, tree: &T) -> Result<Tree, TreeError> {
+    match tree.open() {
+        Ok(file) => Tree::read_from(alloc, Tally::new(file)),
+        Err(failure) => {
+            drop(failure);
+            Err(TreeError::Io { entry: 0 })
+        }
     }
 }
 

@@ -7,6 +7,7 @@ mod explaining;
 mod going_on;
 mod newcomers;
 mod readings;
+mod starts;
 mod totals;
 mod verdict_objects;
 

@@ -1,9 +1,11 @@
 //! Trees that are inferred from a session, each judged by the audit before it is believed.
-ghost use Rattle.std.specs.Prelude.{◌≡◌, List, ℕ, None, Some, IfOk};
-ghost use Rattle.sftp_audit.specs.Audit.{Accounts, AccountsBy};
+ghost use Rattle.std.specs.Prelude.{◌≡◌, List, ℕ, Bool, false, None, Some, IfOk, MatchOption};
+ghost use Rattle.sftp_tree.specs.Tree as values;
+ghost use Rattle.sftp_tree.specs.Picture.{picture};
+ghost use Rattle.sftp_audit.specs.Audit.{Accounts, AccountsBy, request_count};
 ghost use Rattle.sftp_infer.specs.Texts.{bytes_of};
 ghost use Rattle.sftp_profile.specs.declared.profiles.Profile.{Profile as profile};
-ghost use Rattle.sftp_verdicts.specs.Verdicts.{AccountsUnder, HasRun};
+ghost use Rattle.sftp_verdicts.specs.Verdicts.{AccountsUnder};
 ghost use Rattle.sftp_inferring.specs.Inferences.{IsJudged, IsExplained};
 
 use sftp_audit::{AuditError, Ended as End, Refusal, TranscriptError, audit_streams_by};
@@ -65,9 +67,9 @@ pub(crate) enum Found<'a> {
 
 /// Audits a session with a tree: strictly, or under a profile.
 pub(crate) fn judge(how: Judging, tree: &TreeText<'_>, session: &[u8]) -> Result<Ended, AuditError>
-    ensures strictly { how.by ≡ None → IsJudged Accounts (bytes_of tree.now) session.now result }
+    ensures strictly { how.by ≡ None → IsJudged Accounts how.wants_end (bytes_of tree.now) session.now result }
     ensures under { (it : profile) → how.by ≡ Some it →
-        IsJudged (AccountsUnder it) (bytes_of tree.now) session.now result }
+        IsJudged (AccountsUnder it) how.wants_end (bytes_of tree.now) session.now result }
 {
     match how.by {
         None => judge_strictly(how, tree, session),
@@ -76,7 +78,7 @@ pub(crate) fn judge(how: Judging, tree: &TreeText<'_>, session: &[u8]) -> Result
 }
 
 fn judge_strictly(how: Judging, tree: &TreeText<'_>, session: &[u8]) -> Result<Ended, AuditError>
-    ensures { IsJudged Accounts (bytes_of tree.now) session.now result }
+    ensures { IsJudged Accounts how.wants_end (bytes_of tree.now) session.now result }
 {
     judge_by::<Session<GivenTable>>(how, (), tree, session)
 }
@@ -87,7 +89,7 @@ fn judge_under(
     tree: &TreeText<'_>,
     session: &[u8],
 ) -> Result<Ended, AuditError>
-    ensures { IsJudged (AccountsUnder profile) (bytes_of tree.now) session.now result }
+    ensures { IsJudged (AccountsUnder profile) how.wants_end (bytes_of tree.now) session.now result }
 {
     judge_by::<Judge>(how, profile, tree, session)
 }
@@ -99,7 +101,8 @@ fn judge_by<J: Judges>(
     tree: &TreeText<'_>,
     session: &[u8],
 ) -> Result<Ended, AuditError>
-    ensures { IsJudged (AccountsBy J.allowed (J.begun by) J.closed) (bytes_of tree.now) session.now result }
+    ensures { IsJudged (AccountsBy J.allowed (J.begun by) J.closed) how.wants_end (bytes_of tree.now) session.now
+        result }
 {
     match audit_text::<J>(how.alloc, by, tree, session) {
         Ok(end) => outcome_of(how, end),
@@ -113,8 +116,9 @@ fn audit_text<J: Judges>(
     tree: &TreeText<'_>,
     session: &[u8],
 ) -> Result<End, AuditError>
-    ensures { IfOk result
-        (λ _. HasRun (AccountsBy J.allowed (J.begun by) J.closed) (bytes_of tree.now) session.now) }
+    ensures { IfOk result (λ end. (start : values.Tree) × (events : List _)
+        × AccountsBy J.allowed (J.begun by) J.closed (bytes_of tree.now) session.now start events end.tree
+        × (end.requests ≡ request_count events)) }
 {
     match Reader::new(alloc, Memory::new(session)) {
         Ok(mut records) => {
@@ -134,7 +138,11 @@ fn audit_text<J: Judges>(
 }
 
 /// What an audit gave, with the tree file of the end only if it is wanted.
-fn outcome_of(how: Judging, end: End) -> Result<Ended, AuditError> {
+fn outcome_of(how: Judging, end: End) -> Result<Ended, AuditError>
+    ensures requests { IfOk result (λ ended. ended.requests ≡ end.requests) }
+    ensures tree { IfOk result (λ ended. MatchOption ended.tree (how.wants_end ≡ false)
+        (λ bytes. bytes.items ≡ picture end.tree)) }
+{
     let requests = end.requests;
     let written = if how.wants_end {
         Some(end.tree.write())
@@ -157,8 +165,9 @@ fn outcome_of(how: Judging, end: End) -> Result<Ended, AuditError> {
 
 /// Judges a session with the tree that a search gave.
 fn judged<'a>(how: Judging, session: &[u8], candidate: Candidate<'a>) -> Found<'a>
-    ensures strictly { how.by ≡ None → IsExplained Accounts session.now result }
-    ensures under { (it : profile) → how.by ≡ Some it → IsExplained (AccountsUnder it) session.now result }
+    ensures strictly { how.by ≡ None → IsExplained Accounts how.wants_end session.now result }
+    ensures under { (it : profile) → how.by ≡ Some it →
+        IsExplained (AccountsUnder it) how.wants_end session.now result }
 {
     match judge(how, &candidate.tree, session) {
         Ok(ended) => Found::Inferred(Inferred { candidate, ended }),
@@ -171,8 +180,9 @@ fn judged<'a>(how: Judging, session: &[u8], candidate: Candidate<'a>) -> Found<'
 
 /// What the error of an audit says of a session and its tree.
 fn found_by<'a>(error: AuditError) -> Found<'a>
-    ensures strictly { (session : List ℕ) → IsExplained Accounts session result }
-    ensures under { (session : List ℕ) (it : profile) → IsExplained (AccountsUnder it) session result }
+    ensures strictly { (wanted : Bool) (session : List ℕ) → IsExplained Accounts wanted session result }
+    ensures under { (wanted : Bool) (session : List ℕ) (it : profile) →
+        IsExplained (AccountsUnder it) wanted session result }
 {
     match error {
         AuditError::Refused(Refusal::NotAllowed { record }) => Found::Unfit(record),
@@ -189,8 +199,9 @@ fn next_judged<'a>(
     session: &[u8],
     search: &mut Search<'a>,
 ) -> Result<Found<'a>, NoMemory>
-    ensures strictly { how.by ≡ None → IfOk result (IsExplained Accounts session.now) }
-    ensures under { (it : profile) → how.by ≡ Some it → IfOk result (IsExplained (AccountsUnder it) session.now) }
+    ensures strictly { how.by ≡ None → IfOk result (IsExplained Accounts how.wants_end session.now) }
+    ensures under { (it : profile) → how.by ≡ Some it →
+        IfOk result (IsExplained (AccountsUnder it) how.wants_end session.now) }
 {
     match search.next()? {
         Step::Tree(candidate) => Ok(judged(how, session, candidate)),
@@ -205,8 +216,9 @@ pub(crate) fn find<'a>(
     session: &[u8],
     search: &mut Search<'a>,
 ) -> Result<Found<'a>, NoMemory>
-    ensures strictly { how.by ≡ None → IfOk result (IsExplained Accounts session.now) }
-    ensures under { (it : profile) → how.by ≡ Some it → IfOk result (IsExplained (AccountsUnder it) session.now) }
+    ensures strictly { how.by ≡ None → IfOk result (IsExplained Accounts how.wants_end session.now) }
+    ensures under { (it : profile) → how.by ≡ Some it →
+        IfOk result (IsExplained (AccountsUnder it) how.wants_end session.now) }
 {
     for _ in 0..TREES {
         match next_judged(how, session, search)? {

@@ -1,4 +1,6 @@
 //! The lines about an inferred tree: what it assumes, and which records contradict each other.
+ghost use Rattle.std.specs.Prelude.{◌≡◌, IfOk};
+ghost use Rattle.sftp_files.specs.declared.messages.Ending.TheVariants as endings;
 ghost use Rattle.sftp_verdicts.specs.Verdicts.{IsAuditStatus};
 
 use sftp_audit::Refusal;
@@ -70,7 +72,8 @@ pub(crate) fn put_refusal<'a, O: Write>(
     refusal: Refusal,
     output: &mut O,
 ) -> Result<Ending, Failure<'a>>
-    ensures { IsAuditStatus result }
+    ensures status { IsAuditStatus result }
+    ensures refused { IfOk result (λ ending. ending ≡ endings.Refused) }
 {
     print(
         output,

@@ -1,7 +1,12 @@
 //! The subcommand `infer`: audits of sessions whose tree nobody knows.
-ghost use Rattle.std.specs.Prelude.{IfErr};
-ghost use Rattle.sftp_files.specs.Failures.{IsUnwritten};
-ghost use Rattle.sftp_verdicts.specs.Verdicts.{IsAuditStatus};
+ghost use Rattle.std.specs.Prelude.{◌≡◌, true, IfOk, IfErr, IfSome, OnOk};
+ghost use Rattle.sftp_infer.specs.Texts.{bytes_of};
+ghost use Rattle.sftp_files.specs.declared.messages.Ending.TheVariants as endings;
+ghost use Rattle.sftp_files.specs.Failures.{IsUnwritten, IsUsage};
+ghost use Rattle.sftp_verdicts.specs.Files.{Becomes};
+ghost use Rattle.sftp_verdicts.specs.Verdicts.{IsAuditStatus, accounts_under};
+ghost use Rattle.sftp_inferring.specs.declared.inferences.Found.TheVariants as founds;
+ghost use Rattle.sftp_inferring.specs.Inferences.{AreWritten, IsInferred, with_umask};
 
 use crate::inferences::{Found, Inferred, Judging, find};
 use crate::inferred_lines::{
@@ -11,12 +16,12 @@ use crate::inferred_lines::{
 use crate::inferred_objects::{print_inferred, print_untold};
 use sftp_audit::Refusal;
 use sftp_commands::is_lost;
-use sftp_files::{Ending, Failure, Keeping, System, print, read_at_most, write};
+use sftp_files::{Ending, Failure, System, print, read_at_most};
 use sftp_infer::{Excess, Search, Settings, TreeText};
 use sftp_path::{DEPTH_LIMIT, NoMemory, place_of_text};
 use sftp_profile::Profile;
 use sftp_verdicts::{
-    InferOptions, TRANSCRIPT_LOST, parts_of_line, record_of, umask_of, with_umask,
+    InferOptions, StoredFile, Stores, TRANSCRIPT_LOST, asked_profile, parts_of_line, record_of,
 };
 use std::alloc::Global;
 use std::io::Write;
@@ -50,17 +55,47 @@ pub fn infer<'a, R: System, O: Write, E: Write>(
     if let Some(why) = misuse_of(rt, options)? {
         return Err(Failure::of_misuse(rt.alloc(), why));
     }
-    let umask = umask_of(rt.alloc(), options.umask)?;
-    let mut options = *options;
-    options.profile = with_umask(options.profile, umask);
-    match read_at_most(rt, options.transcript, options.memory) {
+    let asked = asked_of(rt.alloc(), options)?;
+    match read_at_most(rt, asked.transcript, asked.memory) {
         Ok(session) => {
-            let ending = infer_from(rt, &options, session.as_slice(), output, errors);
+            let ending = infer_to_files(rt, &asked, session.as_slice(), output, errors);
             drop(session);
             ending
         }
         Err(failure) => Err(failure),
     }
+}
+
+/// The options with the umask in their profile.
+fn asked_of<'a>(alloc: Global, options: &InferOptions<'a>) -> Result<InferOptions<'a>, Failure<'a>>
+    ensures ok { IfOk result (λ asked. asked ≡ with_umask options.now) }
+    ensures err { IfErr result IsUsage }
+{
+    let mut asked = *options;
+    asked.profile = asked_profile(alloc, options.profile, options.umask)?;
+    Ok(asked)
+}
+
+/// Infers a tree from this session, and writes to the files that have the names in the options.
+fn infer_to_files<'a, R: System, O: Write, E: Write>(
+    rt: &R,
+    options: &InferOptions<'a>,
+    session: &[u8],
+    output: &mut O,
+    errors: &mut E,
+) -> Result<Ending, Failure<'a>>
+    ensures { IsAuditStatus result }
+{
+    let mut tree = StoredFile::new(rt, options.tree, options.keeping);
+    let mut best = StoredFile::new(rt, options.best, options.keeping);
+    let mut out = StoredFile::new(rt, options.out, options.keeping);
+    let ending = infer_from(
+        rt, options, session, &mut tree, &mut best, &mut out, output, errors,
+    );
+    drop(out);
+    drop(best);
+    drop(tree);
+    ending
 }
 
 /// Why options cannot be meant so, if they cannot.
@@ -132,14 +167,28 @@ fn settings_of(options: &InferOptions<'_>, length: usize) -> Settings {
     }
 }
 
-fn infer_from<'a, R: System, O: Write, E: Write>(
+/// Infers a tree from this session, and writes it, the tree at its end, or that of the pass that came furthest.
+fn infer_from<'a, T, B, K, R, O, E>(
     rt: &R,
     options: &InferOptions<'a>,
     session: &[u8],
+    tree: &mut T,
+    best: &mut B,
+    out: &mut K,
     output: &mut O,
     errors: &mut E,
 ) -> Result<Ending, Failure<'a>>
-    ensures { IsAuditStatus result }
+where
+    T: Stores<'a>,
+    B: Stores<'a>,
+    K: Stores<'a>,
+    R: System,
+    O: Write,
+    E: Write,
+    ensures inferred { IfOk result (IsInferred (accounts_under options.now.profile) options.now
+        (record { old = T.stored tree.old; new = T.stored tree.new })
+        (record { old = K.stored out.old; new = K.stored out.new }) session.now) }
+    ensures status { IsAuditStatus result }
 {
     let home = match options.home {
         Some(home) => Some(home.as_bytes()),
@@ -152,41 +201,95 @@ fn infer_from<'a, R: System, O: Write, E: Write>(
         by: options.profile,
         wants_end: options.out.is_some(),
     };
-    let found = find(how, session, &mut search);
-    let ending = match found {
-        Ok(found) => {
-            let ending = report(rt, options, session, &search, &found, output, errors);
-            drop(found);
-            ending
-        }
-        Err(_) => Err(Failure::OutOfMemory),
-    };
+    let ending = search_and_report(
+        rt,
+        how,
+        options,
+        session,
+        &mut search,
+        tree,
+        best,
+        out,
+        output,
+        errors,
+    );
     drop(search);
     ending
 }
 
+/// Infers a tree from this session by a search, and says what came of it.
+fn search_and_report<'a, T, B, K, R, O, E>(
+    rt: &R,
+    how: Judging,
+    options: &InferOptions<'a>,
+    session: &[u8],
+    search: &mut Search<'_>,
+    tree: &mut T,
+    best: &mut B,
+    out: &mut K,
+    output: &mut O,
+    errors: &mut E,
+) -> Result<Ending, Failure<'a>>
+where
+    T: Stores<'a>,
+    B: Stores<'a>,
+    K: Stores<'a>,
+    R: System,
+    O: Write,
+    E: Write,
+    ensures inferred { IfSome options.now.out (λ _. how.wants_end ≡ true) →
+        IfOk result (IsInferred (accounts_under how.by) options.now
+        (record { old = T.stored tree.old; new = T.stored tree.new })
+        (record { old = K.stored out.old; new = K.stored out.new }) session.now) }
+    ensures status { IsAuditStatus result }
+{
+    match find(how, session, search) {
+        Ok(found) => {
+            let ending = report(
+                rt, options, session, search, &found, tree, best, out, output, errors,
+            );
+            drop(found);
+            ending
+        }
+        Err(_) => Err(Failure::OutOfMemory),
+    }
+}
+
 /// Says what came of a search.
-fn report<'a, R: System, O: Write, E: Write>(
+fn report<'a, T, B, K, R, O, E>(
     rt: &R,
     options: &InferOptions<'a>,
     session: &[u8],
     search: &Search<'_>,
     found: &Found<'_>,
+    tree: &mut T,
+    best: &mut B,
+    out: &mut K,
     output: &mut O,
     errors: &mut E,
 ) -> Result<Ending, Failure<'a>>
-    ensures { IsAuditStatus result }
+where
+    T: Stores<'a>,
+    B: Stores<'a>,
+    K: Stores<'a>,
+    R: System,
+    O: Write,
+    E: Write,
+    ensures written { IfOk result (λ ending. ending ≡ endings.Done → AreWritten options.now
+        (record { old = T.stored tree.old; new = T.stored tree.new })
+        (record { old = K.stored out.old; new = K.stored out.new }) found.now) }
+    ensures status { IsAuditStatus result }
 {
     match found {
-        Found::Inferred(inferred) => accept(rt, options, inferred, output, errors),
+        Found::Inferred(inferred) => accept(rt, options, inferred, tree, out, output, errors),
         Found::Malformed(error) => Err(Failure::of_transcript(*error, options.transcript)),
         Found::OutOfMemory => Err(Failure::OutOfMemory),
         Found::Refused(refusal) => {
             report_unpaired(rt.alloc(), options, session, *refusal, output, errors)
         }
         Found::TooLarge(excess) => exceed(options, *excess, output, errors),
-        Found::Nothing => refuse(rt, options, session, search, output, errors),
-        Found::Unfit(_) => refuse(rt, options, session, search, output, errors),
+        Found::Nothing => refuse(rt.alloc(), options, session, search, best, output, errors),
+        Found::Unfit(_) => refuse(rt.alloc(), options, session, search, best, output, errors),
     }
 }
 
@@ -200,7 +303,8 @@ fn report_unpaired<'a, O: Write, E: Write>(
     output: &mut O,
     errors: &mut E,
 ) -> Result<Ending, Failure<'a>>
-    ensures { IsAuditStatus result }
+    ensures status { IsAuditStatus result }
+    ensures refused { IfOk result (λ ending. ending ≡ endings.Refused) }
 {
     let record = record_of(refusal);
     if options.is_json {
@@ -219,7 +323,8 @@ fn print_unpaired<'a, O: Write>(
     refusal: Refusal,
     output: &mut O,
 ) -> Result<Ending, Failure<'a>>
-    ensures { IsAuditStatus result }
+    ensures status { IsAuditStatus result }
+    ensures refused { IfOk result (λ ending. ending ≡ endings.Refused) }
 {
     let line = format!(in alloc; "{refusal}")?;
     let (_, kind) = parts_of_line(line.as_str());
@@ -235,7 +340,8 @@ fn exceed<'a, O: Write, E: Write>(
     output: &mut O,
     errors: &mut E,
 ) -> Result<Ending, Failure<'a>>
-    ensures { IsAuditStatus result }
+    ensures status { IsAuditStatus result }
+    ensures refused { IfOk result (λ ending. ending ≡ endings.Refused) }
 {
     let has_memory = options.memory.is_some();
     put_excess(excess, has_memory, errors);
@@ -255,7 +361,8 @@ fn print_none<'a, O: Write>(
     found: u64,
     output: &mut O,
 ) -> Result<Ending, Failure<'a>>
-    ensures { IsAuditStatus result }
+    ensures status { IsAuditStatus result }
+    ensures refused { IfOk result (λ ending. ending ≡ endings.Refused) }
 {
     if is_json {
         return print_untold(kind_of(told, found), found, told, output);
@@ -264,16 +371,21 @@ fn print_none<'a, O: Write>(
 }
 
 /// Writes the files of an accepted session, and says so.
-fn accept<'a, R: System, O: Write, E: Write>(
+fn accept<'a, T: Stores<'a>, K: Stores<'a>, R: System, O: Write, E: Write>(
     rt: &R,
     options: &InferOptions<'a>,
     inferred: &Inferred<'_>,
+    tree: &mut T,
+    out: &mut K,
     output: &mut O,
     errors: &mut E,
 ) -> Result<Ending, Failure<'a>>
-    ensures { IsAuditStatus result }
+    ensures written { OnOk result (AreWritten options.now
+        (record { old = T.stored tree.old; new = T.stored tree.new })
+        (record { old = K.stored out.old; new = K.stored out.new }) (founds.Inferred inferred.now)) }
+    ensures status { IsAuditStatus result }
 {
-    write_files(rt, options, inferred)?;
+    write_files(rt, options, inferred, tree, out)?;
     put_assumed(&inferred.candidate, errors);
     if options.is_json {
         return print_object(rt.alloc(), inferred, output);
@@ -289,35 +401,36 @@ fn accept<'a, R: System, O: Write, E: Write>(
 
 /// Writes the tree file of the start and that of the end, if files are named for them. Two names of one file that was
 /// not there are known for that only once the first tree is written.
-fn write_files<'a, R: System>(
+fn write_files<'a, T: Stores<'a>, K: Stores<'a>, R: System>(
     rt: &R,
     options: &InferOptions<'a>,
     inferred: &Inferred<'_>,
+    tree: &mut T,
+    out: &mut K,
 ) -> Result<(), Failure<'a>>
-    ensures { IfErr result IsUnwritten }
+    ensures written { OnOk result (AreWritten options.now
+        (record { old = T.stored tree.old; new = T.stored tree.new })
+        (record { old = K.stored out.old; new = K.stored out.new }) (founds.Inferred inferred.now)) }
+    ensures err { IfErr result IsUnwritten }
 {
-    if let Some(name) = options.tree {
-        write_text(rt, name, options.keeping, &inferred.candidate.tree)?;
+    if options.tree.is_some() {
+        write_text(&inferred.candidate.tree, tree)?;
     }
     match (options.out, &inferred.ended.tree) {
         (Some(name), Some(_)) if loses_start(rt, options) => Err(Failure::Unfit(name, START_LOST)),
-        (Some(name), Some(tree)) => write(rt, name, options.keeping, tree.as_slice()),
+        (Some(_), Some(end)) => out.store(end.as_slice()),
         _ => Ok(()),
     }
 }
 
 /// Writes a tree file.
-fn write_text<'a, R: System>(
-    rt: &R,
-    name: &'a str,
-    keeping: Keeping,
-    text: &TreeText<'_>,
-) -> Result<(), Failure<'a>>
-    ensures { IfErr result IsUnwritten }
+fn write_text<'a, K: Stores<'a>>(text: &TreeText<'_>, file: &mut K) -> Result<(), Failure<'a>>
+    ensures written { OnOk result (Becomes (K.stored file.old) (K.stored file.new) (bytes_of text.now)) }
+    ensures err { IfErr result IsUnwritten }
 {
     match text.whole() {
         Ok(bytes) => {
-            let written = write(rt, name, keeping, bytes.as_slice());
+            let written = file.store(bytes.as_slice());
             drop(bytes);
             written
         }
@@ -346,17 +459,19 @@ fn print_object<'a, O: Write>(
 }
 
 /// Says that no tree was found, and which records contradict each other.
-fn refuse<'a, R: System, O: Write, E: Write>(
-    rt: &R,
+fn refuse<'a, B: Stores<'a>, O: Write, E: Write>(
+    alloc: Global,
     options: &InferOptions<'a>,
     session: &[u8],
     search: &Search<'_>,
+    best: &mut B,
     output: &mut O,
     errors: &mut E,
 ) -> Result<Ending, Failure<'a>>
-    ensures { IsAuditStatus result }
+    ensures status { IsAuditStatus result }
+    ensures refused { IfOk result (λ ending. ending ≡ endings.Refused) }
 {
-    write_best(rt, options, search)?;
+    write_best(options, search, best)?;
     if search.is_spent() {
         put_spent(errors);
     }
@@ -366,7 +481,7 @@ fn refuse<'a, R: System, O: Write, E: Write>(
     };
     let printed = print_none(options.is_json, told, found, output);
     if !options.is_json && printed.is_ok() {
-        put_reasons(rt.alloc(), options, session, search, errors);
+        put_reasons(alloc, options, session, search, errors);
     }
     printed
 }
@@ -396,15 +511,15 @@ fn is_unexplained(search: &Search<'_>) -> bool {
 }
 
 /// Writes the tree of the pass that came furthest, if there is one and a file is named for it.
-fn write_best<'a, R: System>(
-    rt: &R,
+fn write_best<'a, B: Stores<'a>>(
     options: &InferOptions<'a>,
     search: &Search<'_>,
+    best: &mut B,
 ) -> Result<(), Failure<'a>>
     ensures { IfErr result IsUnwritten }
 {
     match (options.best, search.best()) {
-        (Some(name), Some(tree)) => write_text(rt, name, options.keeping, tree),
+        (Some(_), Some(tree)) => write_text(tree, best),
         _ => Ok(()),
     }
 }
@@ -424,7 +539,8 @@ fn print_contradiction<'a, O: Write>(
     found: u64,
     output: &mut O,
 ) -> Result<Ending, Failure<'a>>
-    ensures { IsAuditStatus result }
+    ensures status { IsAuditStatus result }
+    ensures refused { IfOk result (λ ending. ending ≡ endings.Refused) }
 {
     if told == 0 && found == 0 {
         return print(output, "no tree found\n", Ending::Refused);

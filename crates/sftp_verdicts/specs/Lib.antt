@@ -1,2 +1,3 @@
 pub mod Verdicts
 pub mod Umasks
+pub mod Files

@@ -1,8 +1,13 @@
 //! The record that a refusal names.
+ghost use Rattle.std.specs.Prelude.{◌≡◌};
+ghost use Rattle.sftp_verdicts.specs.Verdicts as spec;
+
 use sftp_audit::Refusal;
 
 /// A refusal with another number of the record.
-pub fn numbered(refusal: Refusal, record: u64) -> Refusal {
+pub fn numbered(refusal: Refusal, record: u64) -> Refusal
+    ensures { result ≡ spec.numbered refusal «record» }
+{
     match refusal {
         Refusal::UnknownReply { .. } => Refusal::UnknownReply { record },
         Refusal::IdInUse { .. } => Refusal::IdInUse { record },

@@ -1,5 +1,5 @@
 //! `--umask`: the permissions that nothing new has, which are octal digits, and the profile with them.
-ghost use Rattle.std.specs.Prelude.{◌≡◌, ◌↔◌, IsTrue, MatchOption, MatchResult, codes, slice_index, unwrap_or};
+ghost use Rattle.std.specs.Prelude.{◌≡◌, ◌↔◌, IsTrue, MatchOption, MatchResult, IfOk, IfErr, slice_index};
 ghost use Rattle.std.specs.Option.{option_map};
 ghost use Rattle.std.specs.Str.Parse.{digits_value};
 ghost use Rattle.sftp_files.specs.Failures.{IsUsage};
@@ -13,8 +13,26 @@ use std::alloc::{AllocError, Global};
 /// The permissions that are taken from whatever is made, without an option.
 const USUAL_UMASK: &str = "022";
 
+/// The profile that options ask for: with the umask of this text, or the usual one.
+///
+/// # Errors
+///
+/// As `umask_of`.
+pub fn asked_profile<'a>(
+    alloc: Global,
+    profile: Option<Profile>,
+    umask: Option<&str>,
+) -> Result<Option<Profile>, Failure<'a>>
+    ensures ok { IfOk result
+        (λ asked. asked ≡ spec.asked_profile profile (option_map (λ given. given.now) umask.entry)) }
+    ensures err { IfErr result IsUsage }
+{
+    let umask = umask_of(alloc, umask)?;
+    Ok(with_umask(profile, umask))
+}
+
 /// The profile with this umask, if it accepts the departure `made`.
-pub fn with_umask(profile: Option<Profile>, umask: u32) -> Option<Profile>
+fn with_umask(profile: Option<Profile>, umask: u32) -> Option<Profile>
     ensures { result ≡ option_map (λ profile. spec.with_umask profile umask) profile }
 {
     let mut profile = profile?;
@@ -29,8 +47,8 @@ pub fn with_umask(profile: Option<Profile>, umask: u32) -> Option<Profile>
 /// # Errors
 ///
 /// `Usage` if the text is no octal number up to 0777, and `OutOfMemory`.
-pub fn umask_of<'a>(alloc: Global, text: Option<&str>) -> Result<u32, Failure<'a>>
-    ensures { let digits = unwrap_or (option_map (λ given. given.now) text.entry) (codes "022") in
+fn umask_of<'a>(alloc: Global, text: Option<&str>) -> Result<u32, Failure<'a>>
+    ensures { let digits = spec.umask_digits (option_map (λ given. given.now) text.entry) in
         MatchResult result (λ umask. IsPermissions digits × (umask ≡ digits_value 8 digits))
         (λ failure. (IsPermissions digits → ⊥) × IsUsage failure) }
 {

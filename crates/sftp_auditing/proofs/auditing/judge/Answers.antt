@@ -7,9 +7,9 @@ use Rattle.sftp_auditing.proofs.auditing.judge.Goals as goal
 pub returns-in-None : goal.returns-in-None
 returns-in-None g c = λ tree is.
     subst (λ (by : Option profile). IsResultAsked by c.args.cuts tree (g.F.Read.remaining c.args.transcript)
-    c.judge_by.result) (sym c.in-None.is) (c.judge_by.ensures tree is)
+    c.judge_by.result.ended c.judge_by.result.follows) (sym c.in-None.is) (c.judge_by.ensures tree is)
 
 pub returns-in-Some : goal.returns-in-Some
 returns-in-Some g c = λ tree is.
     subst (λ (by : Option profile). IsResultAsked by c.args.cuts tree (g.F.Read.remaining c.args.transcript)
-    c.judge_by-in-Some.result) (sym c.in-Some.is) (c.judge_by-in-Some.ensures tree is)
+    c.judge_by-in-Some.result.ended c.judge_by-in-Some.result.follows) (sym c.in-Some.is) (c.judge_by-in-Some.ensures tree is)

@@ -2,7 +2,7 @@
 use Rattle.sftp_inferring.proofs.inferences.judged.Goals as goal
 
 pub returns-in-Err-clause-strictly : goal.returns-in-Err-clause-strictly
-returns-in-Err-clause-strictly c = λ none. c.found_by.ensures.strictly c.args.session.now
+returns-in-Err-clause-strictly c = λ none. c.found_by.ensures.strictly c.args.how.wants_end c.args.session.now
 
 pub returns-in-Err-clause-under : goal.returns-in-Err-clause-under
-returns-in-Err-clause-under c = λ by is. c.found_by.ensures.under c.args.session.now by
+returns-in-Err-clause-under c = λ by is. c.found_by.ensures.under c.args.how.wants_end c.args.session.now by
