@@ -14,8 +14,8 @@ use std::alloc::Global;
 ///
 /// It takes some 60 bytes for each file that was given times, and some 230 for each directory and link that was, for
 /// each directory above one or on a path that is kept, and for each link of the start, and 430 more if it is the only
-/// such one in its directory; 40 for each name in a directory that was listed since its names changed. Some 16,000 paths
-/// of at most 512 bytes are kept with what they lead to.
+/// such one in its directory; 40 for each name in a directory that was listed since its names changed. Some 16,000
+/// paths of at most 512 bytes are kept with what they lead to.
 #[derive(Drop)]
 pub struct TimeTable {
     files: FileTimes,

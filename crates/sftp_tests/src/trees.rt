@@ -1,5 +1,5 @@
-//! The calls that change a tree by paths, each as the request of its name is done, and a directory that moves with 1,000
-//! files. Also `raise`, and `canonical` of `sftp_path`.
+//! The calls that change a tree by paths, each as the request of its name is done, and a directory that moves with
+//! 1,000 files. Also `raise`, and `canonical` of `sftp_path`.
 use crate::audit::BLANK;
 use crate::scripts::is_tree;
 use crate::treefile::RAISED;
