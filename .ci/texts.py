@@ -20,17 +20,24 @@ UNBROKEN = re.compile(
 LONGER = TOP / ".ci" / "longer"
 
 
-def files():
-    """Returns the names of all files of the repository, from its top, without what git ignores."""
+def names():
+    """Returns the names of all files and links of the repository, from its top, without what git ignores."""
     words = ["git", "-C", str(TOP), "ls-files", "-z", "--cached", "--others", "--exclude-standard"]
     try:
         listed = subprocess.run(words, stdout=subprocess.PIPE, stderr=subprocess.DEVNULL, check=True).stdout
-        names = listed.decode().split("\0")
+        return [it for it in listed.decode().split("\0") if it]
     except (OSError, subprocess.CalledProcessError):
         # without git: what builds leave is in folders `out`
         found = [it.relative_to(TOP) for it in TOP.rglob("*")]
-        names = sorted(str(it) for it in found if it.parts[0] != ".git" and "out" not in it.parts)
-    return [it for it in names if it and (TOP / it).is_file() and not (TOP / it).is_symlink()]
+        return sorted(str(it) for it in found if it.parts[0] != ".git" and "out" not in it.parts)
+
+
+def files():
+    return [it for it in names() if (TOP / it).is_file() and not (TOP / it).is_symlink()]
+
+
+def links():
+    return [it for it in names() if (TOP / it).is_symlink()]
 
 
 def text(name):

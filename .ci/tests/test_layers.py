@@ -1,5 +1,5 @@
 """The package python/sftpv3 is in layers: each imports only itself and those below it, also within functions; no module
-imports one that imports it; and no script changes `sys.path`."""
+imports one that imports it; no script changes `sys.path`; and no folder has a link, which `rt ci` refuses."""
 import ast
 import re
 import sys
@@ -131,6 +131,9 @@ class Layers(unittest.TestCase):
             if "sys.path" in text and Path(name).name != Path(__file__).name:
                 found += [f"{name}:{it}" for it in changed_paths(text)]
         self.assertEqual(found, [])
+
+    def test_no_link_is_below_a_folder(self):
+        self.assertEqual([it for it in texts.links() if "/" in it], [])
 
     def test_mistakes_are_found(self):
         known = {name: ast.parse(text) for name, text in {

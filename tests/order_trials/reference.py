@@ -7,9 +7,9 @@ READDIR, in any order. With `listing` names may come and go while a directory is
 import copy
 import itertools
 
-import replies as model
+from model import replies as model
+from model.trees import tree_of
 from sftpv3.codec import Packet, trees
-from trees import tree_of
 
 FIELDS = ("size", "permissions", "times", "owner")
 MAKERS = {"MKDIR": 0, "SYMLINK": 1, "OPEN": 0, "HARDLINK": 1, "RENAME": 1, "POSIX-RENAME": 1}

@@ -1,7 +1,7 @@
 """What `sftpv3 audit` says of a tree file and a transcript (docs/FORMATS.md, docs/PROTOCOL.md)."""
-from replies import Session
+from model.replies import Session
+from model.trees import tree_of
 from sftpv3.codec import CLIENT, Malformed, each_record
-from trees import tree_of
 
 WINDOW = 1024
 

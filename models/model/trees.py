@@ -3,9 +3,9 @@
 A place is the tuple of the names that lead to it. What is at a place is ("D", owner), ("F", number of a file) or
 ("L", target), an owner (user, group, permissions).
 """
+from model.texts import lines_of, text_of_bytes
 from sftpv3.codec import trees as tree_files
 from sftpv3.codec.trees import USUAL, is_good_path, place_of, text_of
-from texts import lines_of, text_of_bytes
 
 LINKS = 40
 

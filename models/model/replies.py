@@ -1,8 +1,8 @@
 """Which replies to a request are allowed, which one `serve` gives, and what the request does (docs/PROTOCOL.md)."""
+from model.trees import with_given
 from sftpv3.codec import Packet, uint32, uint64
 from sftpv3.codec.packets import FLAGS
 from sftpv3.codec.trees import DEEPEST, is_good_path
-from trees import with_given
 
 NAMES_OF_REPLY, PACKET_BYTES = 32, 262_144
 

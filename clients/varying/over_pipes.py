@@ -1,1 +1,0 @@
-../running/over_pipes.py

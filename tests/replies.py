@@ -1,1 +1,0 @@
-../models/replies.py

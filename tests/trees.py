@@ -1,1 +1,0 @@
-../models/trees.py
