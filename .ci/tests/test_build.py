@@ -140,6 +140,7 @@ class Callers(unittest.TestCase):
         with tempfile.TemporaryDirectory() as folder:
             top = Path(folder)
             shutil.copy(FOLDER.parent / name, top)
+            (top / "python/sftpv3").mkdir(parents=True)
             (top / ".ci").mkdir()
             (top / ".ci/build").write_text(f"#!/bin/sh\nexit {status}\n")
             (top / ".ci/build").chmod(0o755)
