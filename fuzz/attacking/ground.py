@@ -16,6 +16,7 @@ from pathlib import Path
 from sftpv3.codec import request
 from sftpv3.system import ending, temporary
 from sftpv3.system.program import program
+from trials.copies import copy_scripts
 
 SECONDS = 120
 CLIENTS = os.path.join(os.path.dirname(os.path.realpath(__file__)), "../../clients")
@@ -191,11 +192,11 @@ class Field:
 
     def script(self, name):
         """Returns the path of a script of clients/, in a copy that every user can read."""
-        copy = os.path.join(os.path.dirname(self.program), "clients")
+        copy = os.path.join(os.path.dirname(self.program), "scripts")
         if not os.path.exists(copy):
-            shutil.copytree(CLIENTS, copy, ignore=shutil.ignore_patterns("__pycache__"))
+            copy_scripts(copy)
             subprocess.run(["chmod", "-R", "a+rX", copy], check=True)
-        return os.path.join(copy, name)
+        return os.path.join(copy, "clients", name)
 
     def names(self):
         return sorted(os.listdir(self.folder))

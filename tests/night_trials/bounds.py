@@ -2,13 +2,13 @@
 machine that is paused."""
 import os
 import resource
-import shutil
 import signal
 import subprocess
 import time
 
 from night_trials.place import ENDS_WELL, environment
-from record_trials.steps import PROGRAM, TOP
+from record_trials.steps import PROGRAM
+from trials.copies import copy_scripts
 from trials.processes import executable, limited, processes_of, wait_until
 
 # The address space that a nightly run may have when what it starts prints much: its own is some 50 MB.
@@ -38,8 +38,7 @@ def talkative(place, subcommand, lines, last="", status=1):
 def much_is_printed(steps, place):
     """What the program and sftpv3-tree print is not held, however much it is."""
     little = {"preexec_fn": limited(resource.RLIMIT_AS, SPACE, resource.RLIM_INFINITY)}
-    scripts = place.room / "clients"
-    shutil.copytree(TOP / "clients", scripts, ignore=shutil.ignore_patterns("__pycache__"))
+    scripts = copy_scripts(place.room / "scripts")
     for lines in (MANY_LINES, LONG_LINE):
         (scripts / "tree").write_text(f"import subprocess\nsubprocess.run({lines!r}, shell=True)\n"
                                       "print('no tree, says the last line')\nraise SystemExit(3)\n")

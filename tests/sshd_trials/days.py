@@ -224,8 +224,8 @@ def reload():
 
 def serve_lies(option):
     """From now on, the last byte of each READ is another one. `option` is one more of the recorder."""
-    for name in ("broken", "sftpv3"):
-        shutil.copytree(TOP / "tests" / name, LIES / name, dirs_exist_ok=True)
+    for name in ("tests/broken", "python/sftpv3"):
+        shutil.copytree(TOP / name, LIES / Path(name).name, dirs_exist_ok=True)
     shutil.copy(TOP / "tests/stand-in", LIES)
     subprocess.run(["chmod", "-R", "a+rX", LIES], check=True)
     text = re.sub(r"(?m)^(Subsystem .*?sftpv3-record).*?( --audit .*transcript) .*(/usr/lib/openssh/\S+) .*$",

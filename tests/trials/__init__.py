@@ -1,6 +1,7 @@
 """What the test scripts share:
 
 steps          the steps that are counted, and trials in parts
+copies         copies of the scripts
 processes      programs that are started, waited for, found and ended; users of a trial
 disks          small file systems, and how they are filled
 sessions       the client's end of a session

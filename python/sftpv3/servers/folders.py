@@ -138,7 +138,8 @@ class Builder:
 
 
 def fill(builder, tree_file):
-    words = [program.program(), "export", "--", tree_file]
+    # the program would take `-` for standard input, from which the client's requests come
+    words = [program.program(), "export", "--", "./-" if tree_file == "-" else tree_file]
     with subprocess.Popen(words, stdin=subprocess.DEVNULL, stdout=subprocess.PIPE, stderr=subprocess.PIPE) as exported:
         source = {"fileobj": exported.stdout, "encoding": "utf-8", "errors": "surrogateescape"}
         try:
