@@ -1,5 +1,5 @@
--- Trees with zeros in the place of the bytes of a file: what a request on paths finds, asks for and is told is the
--- same.
+-- Trees with zeros in the place of the bytes of a file: a request on paths finds the same entries, has the same causes
+-- and gets the same replies.
 use Rattle.std.proofs.Common.{◌≡◌, ◌∙◌, ◌==◌, ◌&&◌, not, ap, sym, refl, ℕ, ◌+◌, Bool, true, false, List, []}
 use Rattle.std.proofs.Common.{length, Option, Some, None, Result, Ok, Err, filter_map}
 use Rattle.std.specs.Option.{option_map, unwrap_or}
