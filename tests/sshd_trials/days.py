@@ -109,30 +109,39 @@ def outside(where):
 
 @dataclass(frozen=True)
 class Session:
-    """What a client does: a name, the act, and the program that it needs besides the client.
+    """What a client does: a name, the act, and the programs that it needs besides OpenSSH's sftp.
 
     If the help of `sftpv3 audit` does not have the word `by`, it is refused, by a verdict with one of `words`.
     """
 
     name: str
     act: Callable
-    program: str = "sh"
+    programs: tuple = ()
     by: str = ""
     words: tuple = ()
 
+    def lacks(self):
+        """The first program that is not installed, or None."""
+        return next((it for it in self.programs if not shutil.which(it)), None)
 
+
+def over_sshfs(name, act, *programs, **how):
+    """A session below a mount of sshfs: an act, or the script of a shell."""
+    return Session(name, by_shell(act) if isinstance(act, str) else act, ("sshfs", *programs), **how)
+
+
+CLONE = over_sshfs("a clone over sshfs", clone, "git")
 ORDINARY = (Session("special files by sftp", special_files), Session("chgrp by sftp", chgrp),
-            Session("a clone over sshfs", clone, "git"),
-            Session("make", by_shell("cd clone && make -s && make -s clean && make -s && test $(wc -l <out/all) = 61"),
-                    "git"),
-            Session("500 files", by_shell(FIVE_HUNDRED)), Session("sizes up to 20 MB", by_shell(SIZES)),
-            Session("a file of 70 MB", by_shell("truncate -s 70000000 large")),
-            Session("cp -r and chmod -R", by_shell(COPIES)),
-            Session("cp -a", by_shell("mkdir kept && echo k >kept/k && cp -a kept kept-too")),
-            *(Session(f"{name} over sshfs", act, program) for name, program, act in EDITORS))
+            CLONE,
+            over_sshfs("make", "cd clone && make -s && make -s clean && make -s && test $(wc -l <out/all) = 61",
+                       "git", "make"),
+            over_sshfs("500 files", FIVE_HUNDRED), over_sshfs("sizes up to 20 MB", SIZES),
+            over_sshfs("a file of 70 MB", "truncate -s 70000000 large"), over_sshfs("cp -r and chmod -R", COPIES),
+            over_sshfs("cp -a", "mkdir kept && echo k >kept/k && cp -a kept kept-too"),
+            *(over_sshfs(f"{name} over sshfs", act, program) for name, program, act in EDITORS))
 
-ALONE = (Session("chgrp by sshfs", by_shell("echo g >g && chgrp $(stat -c %g .) g && ls -l g"), by="keep-owner",
-                 words=("NotAllowed",)),
+ALONE = (over_sshfs("chgrp by sshfs", "echo g >g && chgrp $(stat -c %g .) g && ls -l g", by="keep-owner",
+                    words=("NotAllowed",)),
          Session("chown -h by sftp", link_owner, by="lsetstat", words=("NotModelled",)),
          Session("copy by sftp", copy_data, by="copy-data", words=("NotModelled",)),
          Session("a refused request", denied, by="posix-user", words=("NotAllowed",)),
@@ -160,8 +169,9 @@ def try_all(steps, where, nightly):
 def try_ordinary(steps, where, nightly):
     count = 0
     for session in ORDINARY:
-        if not shutil.which(session.program):
-            steps.skip(f"{where.user}: {session.name}", f"{session.program} is not installed")
+        lacks = session.lacks()
+        if lacks:
+            steps.skip(f"{where.user}: {session.name}", f"{lacks} is not installed")
             continue
         holds, said = session.act(where)
         steps.check(f"{where.user}: {session.name}", holds, said)
@@ -170,7 +180,7 @@ def try_ordinary(steps, where, nightly):
     status, said = nightly()
     steps.check(f"{where.user}: the night accepts them", status == 0 and is_accepted(said, count),
                 f"status {status}: {said}")
-    if shutil.which("git"):
+    if not CLONE.lacks():
         most = max(map(int, re.findall(r"accepted (\d+) requests", said)), default=0)
         steps.check(f"{where.user}: the clone took {LEAST_OF_CLONE:,} requests or more", most >= LEAST_OF_CLONE, said)
 
@@ -178,8 +188,9 @@ def try_ordinary(steps, where, nightly):
 def played(steps, session, where, nightly):
     """The status of the night behind a session, and what it printed; None if the session did not do its work."""
     name = f"{where.user}: {session.name}"
-    if not shutil.which(session.program):
-        steps.skip(name, f"{session.program} is not installed")
+    lacks = session.lacks()
+    if lacks:
+        steps.skip(name, f"{lacks} is not installed")
         return None
     holds, said = session.act(where)
     return nightly() if steps.check(name, holds, said) else None
