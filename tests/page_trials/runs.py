@@ -29,8 +29,8 @@ def rows_of(text):
     """The rows of a page of a set: for each the row of the grid, the place in the order, and the words that are marked
     as wrong, by its id."""
     found = {}
-    for name, row, rest in re.findall(r'<li class="row[^"]*" id="(s-[0-9-]+)"[^>]*style="grid-row:(\d+)">(.*?)</summary>',
-                                      text):
+    rows = r'<li class="row[^"]*" id="(s-[0-9-]+)"[^>]*style="grid-row:(\d+)">(.*?)</summary>'
+    for name, row, rest in re.findall(rows, text):
         place = re.search(r'<span class="unseen">place </span>([\d,]+)', rest)
         found[name] = (int(row), place and int(place[1].replace(",", "")),
                        re.findall(r'<em class="wrong">([^<]*)</em>', rest))

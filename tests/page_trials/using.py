@@ -147,8 +147,8 @@ def keys(steps, folder):
         opened.press("ArrowDown")
         second = opened.run("document.activeElement.closest('.row').id")
         # the records before them: INIT, VERSION, 100 STATs, the OPEN, with their replies
-        steps.check("from there Tab and an arrow lead to the rows that match", (first, second) == ("d1a-205", "d1a-206"),
-                    (first, second))
+        steps.check("from there Tab and an arrow lead to the rows that match",
+                    (first, second) == ("d1a-205", "d1a-206"), (first, second))
         opened.press("Enter")
         steps.check("Enter opens the fields", opened.run("document.getElementById('d1a-206').firstChild.open") is True)
         opened.press("ArrowUp")

@@ -125,8 +125,8 @@ def try_skipped(steps, folder):
     status, said, _ = probe("--seeds", "1-400", "--jobs", "1", "--patience", "2", "--keep", folder, "--report", report,
                             "--", *SERVE)
     text = open(report, encoding="utf-8").read()
-    steps.check("a page of a run that was ended is not green", status == 4 and '<h1 class="plain">no difference' in text,
-                (status, text[text.find("<h1"):][:80]))
+    steps.check("a page of a run that was ended is not green", status == 4 and
+                '<h1 class="plain">no difference' in text, (status, text[text.find("<h1"):][:80]))
 
 
 def try_closed_output(steps, folder):
@@ -184,4 +184,5 @@ def try_own_mistake(steps, folder):
                     ("code 0 (OK)" in done.stdout) == found, done)
 
 
-TRIALS = (try_limits, try_not_removed, try_not_written, try_full_reports, try_skipped, try_closed_output, try_full_streams, try_own_mistake)
+TRIALS = (try_limits, try_not_removed, try_not_written, try_full_reports, try_skipped, try_closed_output,
+          try_full_streams, try_own_mistake)

@@ -109,7 +109,8 @@ class Browser:
         for _ in range(times):
             for kind in ("rawKeyDown", "char", "keyUp") if key == "Enter" else ("rawKeyDown", "keyUp"):
                 text = {"text": "\r"} if kind == "char" else {}
-                self.ask("Input.dispatchKeyEvent", type=kind, key=key, code=key, windowsVirtualKeyCode=KEYS[key], **text)
+                self.ask("Input.dispatchKeyEvent", type=kind, key=key, code=key, windowsVirtualKeyCode=KEYS[key],
+                         **text)
 
     def told(self) -> list[tuple[str, str]]:
         """What a screen reader is told of the page: roles and names."""

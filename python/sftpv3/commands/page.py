@@ -112,7 +112,7 @@ def make(given):
         return fault
     document.write(given.out, text)
     if not fault:
-        program.say(f"wrote {given.out}")
+        print(wording.line(f"wrote {given.out}"))
     return fault
 
 

@@ -157,8 +157,9 @@ def page_of_session(name, records, said, difference=None, centre=(), around=exch
     marked = differing.marked(difference.sessions[0]) if difference else ()
     why = differing.why(difference.kind) if difference else ""
     picture = Picture("d1a", session, marked, why, exchanges.WHOLE, around, centre)
-    body = [*header(f"sftpv3-page: {title}", heading, "no" if difference else "plain"), "<main>", "<section><h2>The session</h2>",
-            facts(about), "</section>", figures.html(figures.of_session(session), picture.told), key()]
+    body = [*header(f"sftpv3-page: {title}", heading, "no" if difference else "plain"), "<main>",
+            "<section><h2>The session</h2>", facts(about), "</section>",
+            figures.html(figures.of_session(session), picture.told), key()]
     if difference:
         body.append(differing.html("d1", difference, exchanges.WHOLE, around, picture))
     else:

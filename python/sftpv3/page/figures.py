@@ -103,7 +103,8 @@ def html(found: Figures, told: Callable[[Any], str]) -> str:
         summary += f", half of them answered within {exact(every.rank(50))} ms"
     body = [table("Requests by kind, and the bytes of their packets and of their replies",
                   ("kind", "requests", "to the server", "to the client"),
-                  [(it.name, f"{it.count:,}", f"{it.to_server:,}", f"{it.to_client:,}") for it in (*found.kinds, every)])]
+                  [(it.name, f"{it.count:,}", f"{it.to_server:,}", f"{it.to_client:,}")
+                   for it in (*found.kinds, every)])]
     if every.waited:
         body.append(table("Milliseconds from a request to its reply",
                           ("kind", "median", "99 percent", "greatest"),
@@ -122,5 +123,5 @@ def table(title: str, heads: tuple[str, ...], rows: list[tuple[str, ...]]) -> st
 
 def slowest(requests: list[Measured], told: Callable[[Any], str]) -> str:
     title = "The slowest request" if len(requests) == 1 else f"The {len(requests)} slowest requests"
-    rows = "".join(f"<li>{exact(one.seconds)} ms: {told(one.subject)}</li>" for one in requests if one.seconds is not None)
+    rows = "".join(f"<li>{exact(one.seconds or 0)} ms: {told(one.subject)}</li>" for one in requests)
     return f'<h3>{title}</h3><ol class="slowest">{rows}</ol>'

@@ -59,7 +59,8 @@ class Lanes:
     def html(self) -> str:
         kind = "picture lanes" if any(row.order for row in self.shown) else "picture lanes unordered"
         found = [f'<ol class="{kind}" aria-label="The requests of all sessions, by the time they were asked" '
-                 f'data-noun="request" data-left="{self.view.folded() + self.view.elsewhere}" style="--lanes:{sum(self.count.values())}">']
+                 f'data-noun="request" data-left="{self.view.folded() + self.view.elsewhere}" '
+                 f'style="--lanes:{sum(self.count.values())}">']
         found += [HEADS, *(self.strip(at, session) for at, session in enumerate(self.view.sessions))]
         for row, part in enumerate(self.view.parts, 2):
             found.append(self.fold(part, row) if isinstance(part, Fold) else self.request(part, row))

@@ -46,8 +46,9 @@
   function said(picture, matched, all, unknown) {
     var noun = picture.dataset.noun, left = Number(picture.dataset.left);
     if (unknown.length) { return "There is no field " + unknown[0] + ": there are " + FIELDS.join(", ") + "."; }
-    return matched.toLocaleString("en") + " of " + counted(all, noun) + " match" + (left ? "; " +
-      counted(left, noun) + " that this page does not show " + (left === 1 ? "was" : "were") + " not searched" : "") + ".";
+    var rest = "; " + counted(left, noun) + " that this page does not show " + (left === 1 ? "was" : "were");
+    return matched.toLocaleString("en") + " of " + counted(all, noun) + " match" +
+      (left ? rest + " not searched." : ".");
   }
   function apply(picture, input, output) {
     var wanted = terms(input.value), rows = picture.querySelectorAll(".row"), matched = 0, kept = {};

@@ -27,7 +27,8 @@ def filtered(kinds, paths, number, code, session=None):
     """The attributes that the filter of a page looks at: the names of a request and of its reply, the paths, the id,
     the code of a STATUS and its name, and of a set the session."""
     codes = [] if code is None else [str(code), codec.CODES.get(code, "")]
-    given = [("kind", " ".join(kinds)), ("path", " ".join(wording.quoted(path, wording.LONG) for path in sorted(paths))),
+    shown = " ".join(wording.quoted(path, wording.LONG) for path in sorted(paths))
+    given = [("kind", " ".join(kinds)), ("path", shown),
              ("id", "" if number is None else str(number)), ("code", " ".join(codes)), ("session", session or "")]
     return "".join(f' data-{name}="{safe(value)}"' for name, value in given if value)
 
