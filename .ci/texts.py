@@ -154,6 +154,9 @@ def wrong_version():
     packaged = re.search(r'(?m)^version = "(.*)"', text("pyproject.toml"))
     if number and (not packaged or packaged[1] != number[1]):
         yield f"pyproject.toml: the version is not the VERSION of the program, {number[1]}"
+    scripts_of = re.search(r'(?m)^VERSION = "(.*)"', text("python/sftpv3/system/parsers.py"))
+    if number and (not scripts_of or scripts_of[1] != number[1]):
+        yield f"python/sftpv3/system/parsers.py: VERSION is not that of the program, {number[1]}"
 
 
 def skipped():

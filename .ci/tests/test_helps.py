@@ -14,7 +14,8 @@ from pathlib import Path
 TOP = Path(__file__).resolve().parents[2]
 
 # The commands that are installed.
-COMMANDS = ("nightly", "page", "probe", "record", "recordd", "serve", "tree", "walk")
+COMMANDS = ("audits", "import-log", "nightly", "page", "probe", "record", "recordd", "serve", "together", "tree",
+            "walk")
 
 # Seconds in which a script has to say what it is for, however busy the machine is.
 LONG = 1800
@@ -125,6 +126,8 @@ runpy.run_path(".ci/pages", run_name="__main__")
 
 # What each of these cannot do, and its status then.
 FAILING = {
+    "audits": (3, ["--tree", "ROOM/nowhere", "ROOM/nowhere"]),
+    "import-log": (3, ["ROOM/nowhere"]),
     "nightly": (3, ["--records", "ROOM/nowhere", "--state", "ROOM/state", "root", "ROOM"]),
     "page": (2, ["examples/letters.tree", "-o", "ROOM/page.html"]),
     "probe": (3, ["--keep", "ROOM/kept", "--", "ROOM/nowhere", "{tree}"]),
@@ -255,6 +258,19 @@ class Helps(unittest.TestCase):
     def test_each_script_says_what_it_is_for(self):
         self.assertGreater(len(scripts()), 30)
         self.no_mistakes(wrong, scripts())
+
+    def test_each_command_says_its_version(self):
+        number = re.search(r'(?m)^version = "(.*)"', (TOP / "pyproject.toml").read_text())[1]
+
+        def mistake(script):
+            ran = run([script, "--version"], stdout=subprocess.PIPE)
+            name = f"{script.name} of sftpv3" if script in servers() else f"sftpv3-{script.name}"
+            wanted = f"{name} {number}\n"
+            if (ran.returncode, ran.stdout.decode(), ran.stderr) != (0, wanted, b""):
+                return f"status {ran.returncode}, {ran.stdout!r} {ran.stderr[-200:]!r}"
+            with open("/dev/full", "wb") as full:
+                return "" if run([script, "--version"], stdout=full).returncode == 3 else "a full disk is not told"
+        self.no_mistakes(mistake, commands() + servers())
 
     def test_help_builds_no_program(self):
         environment = {it: text for it, text in os.environ.items() if it != "SFTPV3"}

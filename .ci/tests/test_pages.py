@@ -72,9 +72,10 @@ class Scripts(unittest.TestCase):
 
 
 class Version(unittest.TestCase):
-    def wrong(self, changes: str, packaged: str = "0.2.0") -> list[str]:
+    def wrong(self, changes: str, packaged: str = "0.2.0", said: str = "0.2.0") -> list[str]:
         files = {"CHANGELOG.md": changes, "crates/sftp_tool/src/lib.rt": SOURCE,
-                 "pyproject.toml": f'[project]\nversion = "{packaged}"\n'}
+                 "pyproject.toml": f'[project]\nversion = "{packaged}"\n',
+                 "python/sftpv3/system/parsers.py": f'VERSION = "{said}"\n'}
         with mock.patch.object(texts, "text", files.get):
             return list(texts.wrong_version())
 
@@ -86,6 +87,7 @@ class Version(unittest.TestCase):
         for changes in "## 0.3.0\n\n## 0.2.0\n", "## 0.2\n", "# Changes\n":
             self.assertRegex(self.wrong(changes)[0], r"^CHANGELOG\.md: .*0\.2\.0$")
         self.assertRegex(self.wrong("## 0.2.0\n", "0.1.0")[0], r"^pyproject\.toml: .*0\.2\.0$")
+        self.assertRegex(self.wrong("## 0.2.0\n", said="0.1.0")[0], r"parsers\.py: .*0\.2\.0$")
 
 
 class Dates(unittest.TestCase):

@@ -1,11 +1,14 @@
 """What fails on the side of the probe: the system, its outputs, itself."""
 import errno
+import json
 import os
+import re
 import shutil
 import subprocess
 import sys
 import tempfile
 from unittest import mock
+from xml.etree import ElementTree
 
 from probe_trials.runs import PROBE, probe
 from sftpv3.peer import servers
@@ -72,6 +75,60 @@ def try_not_written(steps, folder):
                     and " of difference" in said and "Traceback" not in said, (status, said))
 
 
+# Runs a command with a folder of its own of so little room that no report fits into it.
+SMALL = """mount -t tmpfs -o size=4k none "$0" && exec "$@" """
+
+
+def try_full_reports(steps, folder):
+    """A report for which a disk has no room is named, whatever kind it is; what was found is printed all the same."""
+    words = [PROBE, "--seeds", "1-2", "--requests", "5", "--skip", "transfers,crowds", "--keep",
+             os.path.join(folder, "kept"), "--report"]
+    done = subprocess.run([*words, "/dev/full", "--", *SERVE], capture_output=True, text=True, check=False,
+                          stdin=subprocess.DEVNULL)
+    steps.check("--report /dev/full: status 3, and its name", done.returncode == 3 and "accepted: 2 sess" in done.stdout
+                and done.stderr == "probe: /dev/full: No space left on device\n", (done.returncode, done.stderr))
+    place = os.path.join(folder, "small")
+    os.mkdir(place)
+    for kind in ("html", "xml", "json"):
+        name = os.path.join(place, f"{'r' * 20}.{kind}")
+        if steps.lacks_root(f"a full disk under a report of {kind}"):
+            continue
+        # the page of its file, and a file that fills the other one
+        fill = ["sh", "-c", 'head -c 4096 /dev/zero >"$0/fill"; exec "$@"', place]
+        done = subprocess.run(["unshare", "--mount", "sh", "-c", SMALL, place, *fill, *words, name, "--", *SERVE],
+                              capture_output=True, text=True, check=False, stdin=subprocess.DEVNULL)
+        steps.check(f"a full disk under a report of {kind}: status 3, and its name", done.returncode == 3 and
+                    "accepted: 2 sessions" in done.stdout and
+                    done.stderr == f"probe: {name}: No space left on device\n", (done.returncode, done.stderr))
+
+
+def try_skipped(steps, folder):
+    """Seeds that were not played are skipped in JUnit and JSON, and a page is not green then."""
+    words = ["--seeds", "1-4", "--jobs", "1", "--requests", "5", "--in-flight", "1", "--budget", "0", "--skip",
+             "transfers,crowds", "--keep", os.path.join(folder, "kept-skipped"), "--first"]
+    for end in ("xml", "json"):
+        report = os.path.join(folder, f"skipped.{end}")
+        status, said, _ = probe(*words, "--report", report, "--", *misbehaving("fifth-refusal"))
+        played = int(re.search(r"(\d) of 4 sessions were not played: --first", said)[1]) if status == 1 else None
+        if end == "json":
+            lines = [json.loads(line) for line in open(report, encoding="utf-8")]
+            skipped = [(it["seed"], it["accepted"]) for it in lines if it.get("skipped") == "not played: --first"]
+            steps.check("JSON: seeds that were not played are skipped", played and skipped ==
+                        [(seed, None) for seed in range(5 - played, 5)], lines)
+        else:
+            suite = ElementTree.parse(report).getroot()
+            cases = [case.get("classname") for case in suite.findall("testcase") if case.find("skipped") is not None]
+            steps.check("JUnit: seeds that were not played are skipped", played and suite.get("skipped") == str(played)
+                        and cases == [f"probe.seed-{seed}" for seed in range(5 - played, 5)] and
+                        suite.get("tests") == str(len(suite.findall("testcase"))), ElementTree.tostring(suite)[:600])
+    report = os.path.join(folder, "stopped.html")
+    status, said, _ = probe("--seeds", "1-400", "--jobs", "1", "--patience", "2", "--keep", folder, "--report", report,
+                            "--", *SERVE)
+    text = open(report, encoding="utf-8").read()
+    steps.check("a page of a run that was ended is not green", status == 4 and
+                '<h1 class="plain">no difference' in text, (status, text[text.find("<h1"):][:80]))
+
+
 def try_closed_output(steps, folder):
     """Where nobody reads what is printed, the probe says so, and no more."""
     run = subprocess.Popen([PROBE, "--seeds", "1-20", "--budget", "0", "--keep", os.path.join(folder, "closed"), "--",
@@ -127,4 +184,5 @@ def try_own_mistake(steps, folder):
                     ("code 0 (OK)" in done.stdout) == found, done)
 
 
-TRIALS = (try_limits, try_not_removed, try_not_written, try_closed_output, try_full_streams, try_own_mistake)
+TRIALS = (try_limits, try_not_removed, try_not_written, try_full_reports, try_skipped, try_closed_output,
+          try_full_streams, try_own_mistake)

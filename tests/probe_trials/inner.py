@@ -7,7 +7,7 @@ import time
 from probe_trials.runs import probe
 from sftpv3 import codec
 from sftpv3.peer import servers
-from sftpv3.probe import groups, limits, plans, sessions, shrinking, verdicts
+from sftpv3.probe import groups, limits, options, plans, sessions, shrinking, verdicts
 from sftpv3.probe.plans import Step
 from trials.probes import misbehaving
 
@@ -108,12 +108,23 @@ def try_cut_short(steps, _):
 
 def try_tally(steps, _):
     """A session in which nothing was judged is not counted, and has no place in a report."""
-    found = limits.Tally(3)
+    found = limits.Tally(range(1, 4))
     for seed, requests, unjudged in ((1, 60, 0), (2, 0, 0), (3, 5, 5)):
         found.add(limits.Played(seed, 1, 0.1, requests, unjudged))
     judged = [one.seed for one in found.judged]
     steps.check("sessions in which nothing was judged do not count",
                 (found.sessions, judged, found.left) == (1, [1], 0), judged)
+    steps.check("and are skipped", [it[:2] for it in found.skipped()] == [("seed-2", 2), ("seed-3", 3)])
+    found = limits.Tally(options.seeds("7,1-2,1,5-6"))
+    for seed in (7, 1, 5):
+        found.add(limits.Played(seed, 1, 0.1, 60, 0))
+    steps.check("what was not played is skipped, also of seeds that are given twice",
+                [it[1] for it in found.skipped()] == [2, 1, 6] and found.left == 3, [*found.skipped()])
+    found = limits.Tally(options.seeds("1-1000000000000"))
+    found.add(limits.Played(2, 1, 0.1, 60, 0))
+    skipped = [*found.skipped()]
+    steps.check("of very many seeds the first are told each, and how many more there are", [it[1] for it in skipped] ==
+                [1, *range(3, 10_002), None] and skipped[-1][2].startswith("999999989999 further"), skipped[-1])
 
 
 def try_bytes(steps, _):

@@ -1,8 +1,8 @@
 """SFTP version 3 and the file formats of this project, for all scripts, by the documents and not by the program.
 
 `fields` has what packets and files consist of, `packets` the packets of both sides, `transcripts` recorded sessions,
-and `trees` tree files. `wording` has packets as a person reads them. What sessions need is
-named here, too.
+and `trees` tree files. `kinds` says what a file is, and `wording` has packets as a person reads them. What sessions
+need is named here, too.
 """
 from sftpv3.codec.fields import Fields, Malformed, attributes, names, pairs, string, uint32, uint64
 from sftpv3.codec.packets import (APPEND, ATTRS, BAD_MESSAGE, CLIENT, CODES, CREAT, DATA, EOF, EXCL, EXTENDED,

@@ -3,6 +3,7 @@ from __future__ import annotations
 
 from collections.abc import Iterable, Iterator
 
+from sftpv3.codec import kinds
 from sftpv3.codec.fields import Malformed
 from sftpv3.codec.packets import CLIENT, LONGEST, SERVER, SIDES, Packet, front, init, length, version
 
@@ -18,7 +19,7 @@ def put_records(given: Iterable[tuple[bytes, bytes]]) -> bytes:
 def records(transcript: bytes) -> list[tuple[bytes, bytes]]:
     """The records of a transcript, up to the first that is not whole. Nothing in them is judged."""
     if not transcript.startswith(OPENING):
-        raise Malformed("the file is no transcript", "Magic")
+        raise Malformed(kinds.mistaken(transcript, kinds.TRANSCRIPT) or "the file is no transcript", "Magic")
     found, place = [], len(OPENING)
     while place < len(transcript):
         count = length(transcript[place + 1:place + 5])

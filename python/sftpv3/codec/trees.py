@@ -4,6 +4,7 @@ from __future__ import annotations
 from collections.abc import Callable
 from typing import Any, BinaryIO, TypeVar
 
+from sftpv3.codec import kinds
 from sftpv3.codec.fields import Fields, Malformed, string, uint32, uint64
 
 # What is read.
@@ -244,6 +245,8 @@ class Reader:
 
     def tree(self) -> Tree:
         opening = self.fields.data[:len(OPENING)]
+        if why := kinds.mistaken(opening, kinds.TREE):
+            raise Malformed(why, "Magic")
         self.judge(opening in (OPENING, OPENING_WITH_LIMITS, OPENING_WIDE), "Magic")
         self.fields.take(len(OPENING))
         self.is_wide = opening == OPENING_WIDE

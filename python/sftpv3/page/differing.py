@@ -158,9 +158,15 @@ def why(kind):
     return {"Unanswered": "no reply", "UnknownReply": "to no request", "IdInUse": "id in use"}.get(kind, "differs")
 
 
-def html(name, difference, whole=WHOLE, around=AROUND):
+def marked(shown):
+    """The places of the request and of the reply that differ, as far as there are such records."""
+    return [place for place in (shown.request, shown.reply) if place is not None and place < len(shown.records)]
+
+
+def html(name, difference, whole=WHOLE, around=AROUND, picture=None):
     """The section of a difference; `name` begins its ids. A session of more than `whole` records is folded, and
-    `around` of them are shown before and behind what differs."""
+    `around` of them are shown before and behind what differs; `picture` is that of the first session, if it is made
+    already."""
     found = [f'<section class="difference" id="{name}"><h2>{safe(difference.title)}</h2>']
     found += [f'<p class="note">{safe(note)}</p>' for note in difference.notes]
     found.append('<div class="compare">' + side("expected", "Expected", difference.expected) +
@@ -173,7 +179,8 @@ def html(name, difference, whole=WHOLE, around=AROUND):
     byte = difference.byte()
     if byte:
         found.append(of_byte(byte, difference.sessions[0]))
-    found += [of_session(f"{name}{'abc'[number]}", shown, difference.kind, number == 0, *sizes)
+    found += [of_session(shown, number == 0, picture if picture and number == 0 else
+                         picture_of(f"{name}{'abc'[number]}", shown, difference.kind, *sizes))
               for number, (shown, sizes) in enumerate(zip(difference.sessions, [(whole, around), (3 * NEAR, NEAR)]))]
     if difference.errors:
         lines = "\n".join(safe(line) for line in difference.errors)
@@ -209,16 +216,18 @@ def dump(byte, reply):
     return '<pre class="dump" tabindex="0" aria-label="bytes of the packet found">' + "\n".join(rows) + "</pre>"
 
 
-def of_session(name, shown, kind, is_first, whole, around):
+def picture_of(name, shown, kind, whole, around):
+    return Picture(name, exchanges.Session(shown.records, shown.times), marked(shown), why(kind), whole, around)
+
+
+def of_session(shown, is_first, picture):
     """The picture of a session: open if it is the one to read, else behind a line to click."""
-    session = exchanges.Session(shown.records, shown.times)
-    marked = [place for place in (shown.request, shown.reply) if place is not None and place < len(shown.records)]
-    picture = Picture(name, session, marked, why(kind), whole, around).html()
+    session = picture.session
     asked = counted(len(session.exchanges), "request")
     title = f"{safe(shown.title)} <small>{asked}, {most_in_flight(session)} in flight at most</small>"
     if is_first:
-        return f"<h3>{title}</h3>\n{picture}"
-    return f'<details class="other"><summary>{title}</summary>\n{picture}</details>'
+        return f"<h3>{title}</h3>\n{picture.html()}"
+    return f'<details class="other"><summary>{title}</summary>\n{picture.html()}</details>'
 
 
 def most_in_flight(session):

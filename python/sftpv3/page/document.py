@@ -1,5 +1,5 @@
 """A page of HTML that needs nothing else: style and script are in it, and nothing else may run: the page of a
-run of the probe, and that of one session."""
+run of the probe, that of one session, and that of a set of sessions which overlapped."""
 import base64
 import hashlib
 import os
@@ -8,7 +8,7 @@ from typing import List, Tuple
 
 from sftpv3 import codec
 from sftpv3.codec import wording
-from sftpv3.page import differing, exchanges
+from sftpv3.page import differing, exchanges, figures, lanes, sets
 from sftpv3.page.picture import Picture, counted, safe
 from sftpv3.system import files
 
@@ -21,6 +21,14 @@ KEY = [
     ("│", "a lane: from a request to its reply, so lanes beside each other were in flight together"),
     ("┊", "a broken lane: replies to later requests came before this one, which was overtaken"),
     ("║", "a double lane, and rows with a frame: the request and the reply that differ"),
+]
+
+KEY_OF_SET = [
+    ("7", "the place of the request in the order that was found, if one was"),
+    ("b", "the session: its transcript is b.transcript"),
+    ("│", "a bar in a lane of its session, from the request to the last one that was asked before its reply: requests "
+          "with bars beside each other were in flight together, and of two others the upper one came first"),
+    ("║", "a double bar, and rows with a frame: the requests that the verdict names"),
 ]
 
 
@@ -61,10 +69,10 @@ def facts(pairs):
     return '<dl class="facts">' + "".join(rows) + "</dl>"
 
 
-def key():
-    """How a picture is read."""
-    rows = "".join(f"<div><dt>{sign}</dt><dd>{text}</dd></div>" for sign, text in KEY)
-    return (f'<details class="key"><summary>How to read the pictures</summary><p>Time goes down. Each row is a record; '
+def key(signs=KEY, kind="record"):
+    """How a picture is read, whose rows are of this kind."""
+    rows = "".join(f"<div><dt>{sign}</dt><dd>{text}</dd></div>" for sign, text in signs)
+    return (f'<details class="key"><summary>How to read the pictures</summary><p>Time goes down. Each row is a {kind}; '
             f'click it, or press Enter on it, for its fields.</p><dl>{rows}</dl></details>')
 
 
@@ -86,13 +94,13 @@ class Run:
     # For each seed the numbers of its differences, from 1.
     seeds: List[Tuple[int, List[int]]]
     differences: List[differing.Difference] = field(default_factory=list)
+    # Whether each seed was judged: only then is a run without differences accepted.
+    is_whole: bool = True
 
 
 def page_of_run(run):
-    verdict = "no" if run.differences else "yes"
-    sign = "✗" if run.differences else "✓"
-    body = [f'<header><p class="of">{safe(run.title)}</p><h1 class="{verdict}"><span aria-hidden="true">{sign}</span> '
-            f'{safe(run.summary)}</h1></header>', "<main>", '<section><h2>The run</h2>', facts(run.facts),
+    verdict = "no" if run.differences else "yes" if run.is_whole else "plain"
+    body = [*header(run.title, run.summary, verdict), "<main>", '<section><h2>The run</h2>', facts(run.facts),
             seeds(run.seeds), "</section>"]
     if run.differences:
         body += ['<nav aria-label="Differences"><h2>Differences</h2><ol class="index">',
@@ -136,22 +144,82 @@ def version(records):
     return [f"version {number}"] + [f"{wording.quoted(name)} {wording.quoted(value)}" for name, value in pairs]
 
 
-def page_of_session(name, records, said, difference=None, centre=(), around=exchanges.AROUND):
-    """The text of the page: `said` has pairs of what is said above the picture; `difference` is the refusal."""
-    session = exchanges.Session(records)
+def page_of_session(name, records, said, difference=None, centre=(), around=exchanges.AROUND, times=None):
+    """The text of the page: `said` has pairs of what is said above the picture; `difference` is the refusal; `times`
+    are seconds, one for each record, or None."""
+    session = exchanges.Session(records, times)
     asked = len(session.exchanges)
     title = os.path.basename(name)
     about = [("session", name), ("records", f"{len(records):,}: {counted(asked, 'request')}, "
                                  f"{differing.most_in_flight(session)} in flight at most"),
              ("server's VERSION", version(records)), *said]
     heading = "refused: " + difference.title if difference else counted(asked, "request")
-    kind, sign = ("no", '<span aria-hidden="true">✗</span> ') if difference else ("plain", "")
-    body = [f'<header><p class="of">sftpv3-page: {safe(title)}</p><h1 class="{kind}">{sign}{safe(heading)}</h1>'
-            "</header>", "<main>", "<section><h2>The session</h2>", facts(about), "</section>",
-            key()]
+    marked = differing.marked(difference.sessions[0]) if difference else ()
+    why = differing.why(difference.kind) if difference else ""
+    picture = Picture("d1a", session, marked, why, exchanges.WHOLE, around, centre)
+    body = [*header(f"sftpv3-page: {title}", heading, "no" if difference else "plain"), "<main>",
+            "<section><h2>The session</h2>", facts(about), "</section>",
+            figures.html(figures.of_session(session), picture.told), key()]
     if difference:
-        body.append(differing.html("d1", difference, exchanges.WHOLE, around))
+        body.append(differing.html("d1", difference, exchanges.WHOLE, around, picture))
     else:
-        body += ['<section id="d1"><h2>Its packets</h2>',
-                 Picture("d1a", session, centre=centre, around=around).html(), "</section>"]
+        body += ['<section id="d1"><h2>Its packets</h2>', picture.html(), "</section>"]
     return page(f"{title}: {heading}", "\n".join([*body, "</main>"]))
+
+
+def header(title, heading, kind):
+    """The head of a page: its verdict is `yes`, `no` or `plain`, if there is none."""
+    sign = {"no": "✗", "yes": "✓"}.get(kind)
+    sign = f'<span aria-hidden="true">{sign}</span> ' if sign else ""
+    return [f'<header><p class="of">{safe(title)}</p><h1 class="{kind}">{sign}{safe(heading)}</h1>',
+            "</header>"]
+
+
+# What the heading of a set says, and its kind, by the word of the verdict.
+HEADINGS = {"accepted": ("accepted", "yes"), "refused": ("refused", "no"), "undecided": ("undecided", "plain")}
+
+
+def page_of_set(folder, found, verdict, said, marks, around=sets.AROUND):
+    """The text of the page of a set: `verdict` is what sftpv3-together said, or None; `marks` has the rows that it
+    names, or others that are looked at, with their words."""
+    title = os.path.basename(os.path.normpath(folder))
+    view = sets.view(found, list(marks), around)
+    picture = lanes.Lanes("s", found, view, marks)
+    measured = lanes.figures_of(found)
+    in_words = f"{counted(len(found.rows), 'request')} in {counted(len(found.names), 'session')}"
+    heading, kind = HEADINGS[verdict.word] if verdict else (in_words, "plain")
+    about = [("set", folder), ("requests", f"{in_words}, {measured.in_flight:,} in flight at most"), *said]
+    body = [*header(f"sftpv3-page: {title}", heading, kind), "<main>", '<section id="v"><h2>The sessions</h2>']
+    if verdict:
+        body += [f'<p class="sentence">{safe(verdict.text)}</p>', links(picture, verdict, marks)]
+    body += [facts(about), sessions(found, view), "</section>", figures.html(measured, picture.told),
+             key(KEY_OF_SET, "request"), '<section id="d1"><h2>Their requests</h2>', left_out(view), picture.html(),
+             "</section>"]
+    return page(f"{title}: {heading}", "\n".join([*body, "</main>"]))
+
+
+def links(picture, verdict, marks):
+    """The requests that the verdict names."""
+    rows = "".join(f"<li>{picture.told(row)}</li>" for row in marks)
+    return f"<ul>{rows}</ul>" if verdict.word != "accepted" and rows else ""
+
+
+def sessions(found, view):
+    """A row for each session that has lanes."""
+    rows = []
+    for number in view.sessions:
+        deeds = found.deeds[number]
+        begin = lanes.when(found, deeds[0].asked) if deeds else ""
+        rows.append((f"{number + 1}: {found.names[number]}", f"{len(deeds):,}", begin))
+    return ('<div class="figures">' + figures.table("Sessions, by the numbers above the lanes",
+                                                    ("session", "requests", "the first asked at"), rows) + "</div>")
+
+
+def left_out(view):
+    """What is said of requests that are not shown, or nothing."""
+    parts = []
+    if view.others:
+        parts.append(f"{counted(view.others, 'session')} with {counted(view.elsewhere, 'request')}")
+    if view.folded():
+        parts.append(f"{counted(view.folded(), 'request')} of the sessions with lanes")
+    return f'<p class="note">Not shown: {"; ".join(parts)}.</p>' if parts else ""

@@ -9,7 +9,7 @@ from dataclasses import dataclass
 from typing import Dict, Optional
 
 from sftpv3 import codec
-from sftpv3.codec import wording
+from sftpv3.codec import kinds, wording
 from sftpv3.codec.packets import KINDS_OF
 
 # Lanes beside each other. Further requests in flight share the last.
@@ -157,7 +157,8 @@ def read(name, most):
     None if all are right."""
     data = contents(name, most)
     if not data.startswith(codec.OPENING):
-        raise Bad("it is no transcript: it does not begin with " + codec.OPENING.decode())
+        raise Bad(kinds.mistaken(data, kinds.TRANSCRIPT) or
+                  f"it is no transcript: it does not begin with {codec.OPENING.decode()}")
     records = list(itertools.takewhile(lambda record: record[0] in SIDES, codec.records(data)))
     if [(side, packet[4:5]) for side, packet in records[:2]] != [(b"C", b"\x01"), (b"S", b"\x02")]:
         raise Bad("it does not begin with an INIT and a VERSION")

@@ -2,6 +2,7 @@
 request in flight, from its row to the row of its reply."""
 from html import escape
 
+from sftpv3 import codec
 from sftpv3.codec import wording
 from sftpv3.page import exchanges
 
@@ -20,6 +21,24 @@ def milliseconds(seconds):
 
 def counted(number, noun, plural=None):
     return f"{number:,} {noun if number == 1 else plural or noun + 's'}"
+
+
+def filtered(kinds, paths, number, code, session=None):
+    """The attributes that the filter of a page looks at: the names of a request and of its reply, the paths, the id,
+    the code of a STATUS and its name, and of a set the session."""
+    codes = [] if code is None else [str(code), codec.CODES.get(code, "")]
+    shown = " ".join(wording.quoted(path, wording.LONG) for path in sorted(paths))
+    given = [("kind", " ".join(kinds)), ("path", shown),
+             ("id", "" if number is None else str(number)), ("code", " ".join(codes)), ("session", session or "")]
+    return "".join(f' data-{name}="{safe(value)}"' for name, value in given if value)
+
+
+def code_of(data):
+    """The code of a STATUS, or None if it is none."""
+    try:
+        return codec.Reply(data).code
+    except codec.Malformed:
+        return None
 
 
 class Picture:
@@ -41,7 +60,9 @@ class Picture:
         self.lanes = min(exchanges.LANES, max(1, session.lanes))
 
     def html(self):
-        found = [f'<ol class="picture" style="--lanes:{self.lanes}">']
+        left = sum(last - first + 1 for first, last, _ in self.folds)
+        found = ['<ol class="picture" aria-label="The records, in the order in which they passed" data-noun="record" '
+                 f'data-left="{left}" style="--lanes:{self.lanes}">']
         for row, part in enumerate(self.parts, 1):
             found.append(self.fold(part, row) if isinstance(part, exchanges.Fold) else self.record(part, row))
         found += [self.bar(exchange) for exchange in self.passing()]
@@ -90,14 +111,27 @@ class Picture:
         summary = (f'<summary><span class="number">{place + 1}</span>{when}<abbr class="side" title="{said}">'
                    f'{side.decode()}</abbr><span class="words"><b>{packet.name}</b> {number}'
                    f'<span class="line">{safe(packet.line)}</span>{marks}</span></summary>')
-        html = [f'<li class="{" ".join(kinds)}" id="{self.name}-{place + 1}"{of} style="grid-row:{row}">'
+        html = [f'<li class="{" ".join(kinds)}" id="{self.name}-{place + 1}"{of}{self.filter(place, exchange)} '
+                f'style="grid-row:{row}">'
                 f'<details>{summary}{self.fields(place, packet, exchange)}</details></li>']
         if exchange:
-            html.append(f'<li class="tick{" differs" if place in self.differing else ""}" aria-hidden="true" '
+            html.append(f'<li class="tick{" differs" if place in self.differing else ""}" aria-hidden="true"{of} '
                         f'style="grid-row:{row};grid-column:{self.lane(exchange)}/-2"></li>')
         if exchange and exchange.request == place:
             html.append(self.bar(exchange))
         return "".join(html)
+
+    def filter(self, place, exchange):
+        """What the filter of the page looks at: the same of a request and of its reply."""
+        records = self.session.records
+        if exchange is None:
+            side, data = records[place]
+            return filtered([wording.of(side, data).name], (), None, code_of(data) if side == b"S" else None)
+        places = [it for it in (exchange.request, exchange.reply) if it is not None]
+        code = None if exchange.reply is None else code_of(records[exchange.reply][1])
+        return filtered([wording.kind_of(*records[it]) for it in places],
+                        exchanges.paths_of(self.session, exchange.request),
+                        int.from_bytes(records[exchange.request][1][5:9], "big"), code)
 
     def marks(self, place, side, packet, exchange):
         """Words behind a line: what is to be noticed."""
@@ -143,6 +177,11 @@ class Picture:
             took = f", {milliseconds(self.session.times[exchange.reply] - self.session.times[exchange.request])}"
             took += " later" if place == exchange.request else " earlier"
         return [("reply" if place == exchange.request else "request", self.link(other) + took)]
+
+    def told(self, exchange):
+        """A request in a few words, with a link if it is shown."""
+        packet = wording.of(*self.session.records[exchange.request])
+        return f"<b>{packet.name}</b> {safe(packet.line)}, {self.link(exchange.request)}"
 
     def link(self, place):
         """The number of a record, with a link if it is shown."""

@@ -7,7 +7,7 @@ import signal
 import sys
 import threading
 import time
-from collections import deque
+from collections import Counter, deque
 from concurrent import futures
 from contextlib import suppress
 from dataclasses import dataclass, field
@@ -191,11 +191,15 @@ class Played:
         return not self.groups and self.unjudged >= self.requests
 
 
-class Tally:
-    """All sessions, in the order of their seeds. `planned` is how many were to be played."""
+# How many seeds that were not played are each told.
+EACH = 10_000
 
-    def __init__(self, planned=0):
-        self.planned, self.played = planned, []
+
+class Tally:
+    """All sessions, in the order of their seeds. `numbers` are the seeds that were to be played, in order."""
+
+    def __init__(self, numbers=range(0)):
+        self.numbers, self.played = numbers, []
         self.stopped = None
         # what the server's VERSION says
         self.version = None
@@ -226,9 +230,35 @@ class Tally:
         return sum(bool(one.groups) for one in self.played)
 
     @property
+    def planned(self):
+        """How many sessions were to be played."""
+        return len(self.numbers)
+
+    @property
     def left(self):
         """How many sessions were not played."""
         return self.planned - len(self.played)
+
+    def unplayed(self):
+        """The first seeds that were not played, at most as many as are each told."""
+        played, left = Counter(one.seed for one in self.played), min(self.left, EACH)
+        for seed in self.numbers:
+            if left == 0:
+                return
+            if played[seed]:
+                played[seed] -= 1
+            else:
+                left -= 1
+                yield seed
+
+    def skipped(self):
+        """What counts as neither accepted nor different, with the reason: seeds, and `further` for all that are not
+        told each."""
+        yield from ((f"seed-{one.seed}", one.seed, "no request was judged") for one in self.played if one.vain())
+        why = f"not played: {self.stopped or 'the run ended'}"
+        yield from ((f"seed-{seed}", seed, why) for seed in self.unplayed())
+        if self.left > EACH:
+            yield "further", None, f"{self.left - EACH} further seeds {why}"
 
     @property
     def judged(self):

@@ -262,6 +262,8 @@ def options(about):
     if option and not keeps_files(given):
         found.error(f"{option} needs a server that has the same files when it is started once more: put {{folder}} "
                     "where it takes a folder, or give --reset or --look-first")
+    if given.report == "-":
+        found.error("--report: standard output has what the run prints, so - is no name for a report")
     names = [("--tree", given.tree), ("--session", given.session), ("--report", given.report)]
     if twice := named_twice(names, may_be_one=("--tree", "--session")):
         found.error(f"{twice[0]} and {twice[1]} name one file")

@@ -1,6 +1,6 @@
 """What is printed, kept and reported, with the session of a difference as text, in which the request and the reply that
-differ are marked. JUnit has a case for each seed that is accepted, and one for each kind of difference in each other
-seed."""
+differ are marked. JUnit has a case for each seed that is accepted, one for each kind of difference in each other seed,
+and one that is skipped for each seed of which nothing was judged."""
 import json
 import os
 import re
@@ -138,6 +138,8 @@ def of_group(number, group):
 def write_json_lines(name, tally, found):
     lines = [{"seed": one.seed, "accepted": not one.groups, "differences": [group.title() for group in one.groups],
               "seconds": round(one.seconds, 3)} for one in tally.judged]
+    # neither accepted nor refused
+    lines += [{"seed": seed, "accepted": None, "skipped": why} for _, seed, why in tally.skipped()]
     lines += [of_group(number, group) for number, group in enumerate(found, 1)]
     files.write_text(name, "".join(json.dumps(clean(line)) + "\n" for line in lines))
 
@@ -163,7 +165,7 @@ def write_page(name, given, tally, found):
              ("requests", f"{tally.requests:,}, {tally.unjudged:,} of which were not judged"),
              ("time", f"{sum(one.seconds for one in tally.played):,.1f} s in all sessions, until "
                       f"{time.strftime('%Y-%m-%d %H:%M:%S', time.gmtime())} UTC")]
-    run = document.Run("sftpv3-probe", summary(tally, found), facts, seeds, differences)
+    run = document.Run("sftpv3-probe", summary(tally, found), facts, seeds, differences, not any(tally.skipped()))
     document.write(name, document.page_of_run(run))
 
 
@@ -210,9 +212,17 @@ def write_junit(name, tally, command):
         failures += len(played.groups)
         cases += [junit_case(played, group) for group in played.groups] or \
             [f'  <testcase classname="probe.seed-{played.seed}" name="accepted" time="{played.seconds:.3f}"/>']
-    suite = f'<testsuite name={junit_quoted("sftpv3-probe -- " + shlex.join(command))} tests="{len(cases)}" ' \
-        f'failures="{failures}" errors="0" skipped="0" time="{sum(played.seconds for played in tally.played):.3f}">'
-    files.write_text(name, "\n".join(['<?xml version="1.0" encoding="UTF-8"?>', suite, *cases, "</testsuite>", ""]))
+    skipped = [junit_skipped(name, why) for name, _, why in tally.skipped()]
+    suite = f'<testsuite name={junit_quoted("sftpv3-probe -- " + shlex.join(command))} ' \
+        f'tests="{len(cases) + len(skipped)}" failures="{failures}" errors="0" skipped="{len(skipped)}" ' \
+        f'time="{sum(played.seconds for played in tally.played):.3f}">'
+    files.write_text(name, "\n".join(['<?xml version="1.0" encoding="UTF-8"?>', suite, *cases, *skipped,
+                                      "</testsuite>", ""]))
+
+
+def junit_skipped(name, why):
+    return (f'  <testcase classname="probe.{name}" name="not judged" time="0.000">'
+            f'<skipped message={junit_quoted(why)}/></testcase>')
 
 
 def junit_name(group):

@@ -225,7 +225,7 @@ class Run:
         def steps_of(seed):
             steps = self.recorded if self.given.session else self.planned(seed, skip)
             return self.given.limits.cut(self.auditor.lacks.steps(steps))
-        self.tally.planned = len(numbers)
+        self.tally.numbers = numbers
 
         def task_of(place, number):
             def task(worker):

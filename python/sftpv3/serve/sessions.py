@@ -248,11 +248,11 @@ def refuse_terminal():
         raise Misused(f"standard input is a terminal; let a client start the server: sftp -D '{NAME} --tree FILE'")
 
 
-def complain(text: str | None):
-    """Prints what is wrong with a command line, or the help, and ends the program."""
+def complain(text: str | None, asked: str = "--help"):
+    """Prints what is wrong with a command line, or else what is asked for, and ends the program."""
     from sftpv3.serve.parsers import parser
     if text is None:
-        parser().parse_args(["--help"])
+        parser().parse_args([asked])
     parser().error(text)
 
 
@@ -260,6 +260,8 @@ def serve(words: list[str]) -> int:
     """Does the work of the command. No fault ends with a traceback, or with status 0."""
     log = Log(NAME)
     try:
+        if words == ["--version"]:
+            complain(None, "--version")
         if "--help" in words or "-h" in words:
             complain(None)
         options = read(words)

@@ -49,6 +49,10 @@ def read_words(about, least=1):
     """Takes `--folder NAME` out of the script's words. Ends the script if they ask for help, which its text `about`
     has, or are fewer than it needs."""
     what, usage, more = (it.strip() for it in about.split("\n\n", 2))
+    if sys.argv[1:2] == ["--version"]:
+        from sftpv3.system.parsers import VERSION
+        print_or_end(f"{os.path.basename(sys.argv[0])} of sftpv3 {VERSION}\n", os.path.basename(sys.argv[0]))
+        sys.exit(0)
     if sys.argv[1:2] in (["-h"], ["--help"]):
         print_or_end(f"usage: {usage}\n\n{what}\n\n{more}\n\n{OF_FOLDER}\n", os.path.basename(sys.argv[0]))
         sys.exit(0)

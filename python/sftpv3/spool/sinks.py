@@ -5,6 +5,7 @@ import select
 import struct
 import time
 
+from sftpv3.codec import kinds
 from sftpv3.system import ways
 
 # How what is sent to a spool begins: spool/keeping.py has its form.
@@ -313,7 +314,7 @@ def clock_of(data):
     is_of_boot = data[:8] == BOOT_OPENING
     head = 16 + (BOOT_BYTES + 8) * is_of_boot
     if data[:8] not in (TIMES_OPENING, BOOT_OPENING) or len(data) < head:
-        raise Malformed("the file has no times")
+        raise Malformed(kinds.mistaken(data, kinds.TIMES) or "the file has no times")
     if len(data) % 8:
         raise Malformed("the file ends inside an entry")
     times = list(struct.unpack(f">{(len(data) - head) // 8}Q", data[head:]))

@@ -17,14 +17,22 @@ def write(name, data):
     """Writes a file, which replaces the one of that name whole. A pipe or a device is written to."""
     with naming.place_of(name) as place:
         if naming.is_stream(place):
-            with open(naming.open_stream(place, lambda: True), "wb") as file:
-                os.set_blocking(file.fileno(), True)
-                file.write(data)
+            write_stream(naming.open_stream(place, lambda: True), data, name)
             return
     with Replacing(name) as new:
         new.file.write(data)
         new.file.flush()
         new.keep()
+
+
+def write_stream(opened, data, name):
+    """Writes to an open pipe or device, and closes it. An error names it."""
+    try:
+        with open(opened, "wb") as file:
+            os.set_blocking(file.fileno(), True)
+            file.write(data)
+    except OSError as error:
+        raise OSError(error.errno, error.strerror, name) from None
 
 
 def write_text(name, text):

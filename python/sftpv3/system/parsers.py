@@ -8,9 +8,29 @@ from sftpv3.system.notices import printable
 from sftpv3.system.standard import left_unsaid, print_or_end
 
 
+# The version of all scripts, which is that of the program.
+VERSION = "0.2.0"
+
+
+class Version(argparse.Action):
+    """Prints which version of a command this is."""
+
+    def __init__(self, option_strings, dest):
+        super().__init__(option_strings, argparse.SUPPRESS, nargs=0, help="print the version, and do nothing else")
+
+    def __call__(self, parser, *_):
+        name = os.path.basename(parser.prog)
+        print_or_end(f"sftpv3-{name.removeprefix('sftpv3-')} {VERSION}\n", name)
+        parser.exit(0)
+
+
 class Parser(argparse.ArgumentParser):
-    """A parser whose complaints show what it was given as one line that does nothing to a terminal. If standard
-    error fails, the status is the same; if the help cannot be printed, it is 3."""
+    """A parser that knows --help and --version. Its complaints show what it was given as one line that does nothing to
+    a terminal. If standard error fails, the status is the same; if the help cannot be printed, it is 3."""
+
+    def __init__(self, **given):
+        super().__init__(**given)
+        self.add_argument("--version", action=Version)
 
     def print_help(self, file=None):
         print_or_end(self.format_help(), os.path.basename(self.prog))

@@ -24,7 +24,7 @@ class Verdict:
     """What is printed: the verdict in a word, a sentence, and the same for programs."""
 
     def __init__(self, word: str, text: str, **told: Any):
-        self.word, self.text, self.told = word, text, {"verdict": word, **told}
+        self.word, self.text, self.told = word, text, {"verdict": word, "text": text, **told}
 
     def show(self, as_json: bool) -> int:
         print(json.dumps(self.told) if as_json else self.text, flush=True)

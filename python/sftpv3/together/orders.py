@@ -4,7 +4,7 @@ from __future__ import annotations
 import struct
 
 from sftpv3.together.checking import Place
-from sftpv3.together.outside import Fields, Malformed, string, uint32
+from sftpv3.together.outside import Fields, Malformed, kinds, string, uint32
 
 OPENING = b"SFTPOR01"
 
@@ -25,7 +25,7 @@ def put(order: Order) -> bytes:
 def get(data: bytes) -> Order:
     """The order of a file; Malformed with what is wrong."""
     if not data.startswith(OPENING):
-        raise Malformed("the file is no order", "Magic")
+        raise Malformed(kinds.mistaken(data, kinds.ORDER) or "the file is no order", "Magic")
     source = Fields(data[len(OPENING):])
     names = [source.string().decode(errors="surrogateescape") for _ in range(source.uint32())]
     piece, rest = source.uint32(), source.rest()

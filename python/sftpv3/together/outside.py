@@ -2,7 +2,7 @@
 and how commands find the program and end."""
 from __future__ import annotations
 
-from sftpv3.codec import CLIENT, SERVER, packets, transcripts, trees
+from sftpv3.codec import CLIENT, SERVER, kinds, packets, transcripts, trees
 from sftpv3.codec.fields import Fields, Malformed, string, uint32
 from sftpv3.spool.sinks import Clock
 from sftpv3.spool.sinks import Malformed as MalformedTimes
@@ -11,4 +11,4 @@ from sftpv3.system.parsers import Parser
 from sftpv3.system.program import NotBuilt, called, program
 
 __all__ = ["CLIENT", "Clock", "Fields", "Malformed", "MalformedTimes", "NotBuilt", "Parser", "SERVER", "called",
-           "clock_of", "packets", "program", "string", "transcripts", "trees", "uint32"]
+           "clock_of", "kinds", "packets", "program", "string", "transcripts", "trees", "uint32"]
