@@ -99,7 +99,7 @@ class Repairs:
             return False
         self.tried.add((goal, moved, deeds[0]))
         search.follow([deed for deed in deeds if deed is not moved])
-        if not search.is_done(goal) and not search.look_ahead(goal):
+        if not search.gets_past(goal):
             return False
         if moved is not goal:
             search.waits.setdefault(deeds[0], set()).add(moved)

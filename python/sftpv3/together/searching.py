@@ -91,6 +91,19 @@ class Search:
     def is_done(self, deed: Deed) -> bool:
         return self.heads[deed.session] > deed.index
 
+    def is_past(self, goal: Deed) -> bool:
+        """Whether a request is done, and all that are due before it: only so the search gets on."""
+        at = goal.deadline, goal.session
+        return all(at < (due, session) for session, due in enumerate(self.due))
+
+    def gets_past(self, goal: Deed) -> bool:
+        """Does what is due up to a request, if that is right by a look ahead."""
+        while not self.is_past(goal):
+            due = self.goal()
+            if due is None or not self.go_on(due) and not self.look_ahead(due):
+                return False
+        return True
+
     def goal(self) -> Optional[Deed]:
         """The request whose deadline is next; None if none is left that was answered."""
         least = min(self.due)
@@ -350,7 +363,7 @@ class Search:
                 waiting.pop()
                 self.back_to(max(floor, len(self.choices) - 1))
             elif self.choose(*candidate):
-                if self.is_done(goal):
+                if self.is_past(goal):
                     return True
                 if self.key() in self.dead:
                     self.back_to(len(self.choices) - 1)
