@@ -46,7 +46,7 @@ class Command:
         self.sessions, is_of_boot = read_set(given.folder)
         self.deeds = [session.deeds for session in self.sessions]
         self.count = sum(map(len, self.deeds))
-        self.unknown = exactness.left_out(self.tree, self.deeds)
+        self.unknown = exactness.left_out(self.tree, self.deeds, given)
         self.changes: list[inventing.Invented] = []
         if given.write_others and os.path.basename(given.write_others) in (it.name for it in self.sessions):
             raise Unfit(f"{given.write_others}: a session of the set has this name")
@@ -87,6 +87,7 @@ class Command:
         except searching.OutOfSteps:
             return self.undecided(search)
         if not found:
+            self.unknown = self.unknown or exactness.met(search, self.given)
             return self.refused(search) if self.unknown is None else self.unsure(search)
         self.add_others(search)
         return self.judge([Place(deed.session, part) for deed, part in whole_where_together(search.order)])

@@ -37,7 +37,7 @@ class Deed:
     parts, and `is_choice` says whether they change anything beyond what their own session has open."""
 
     __slots__ = ("session", "index", "asked", "answered", "asked_in", "answered_in", "request", "reply", "deadline",
-                 "acts", "is_choice", "is_bound", "is_eager", "rank")
+                 "acts", "is_choice", "is_bound", "is_eager", "rank", "is_appended")
 
     def __init__(self, session: int, index: int, asked: int, asked_in: int, request: packets.Packet):
         self.session, self.index, self.asked, self.asked_in, self.request = session, index, asked, asked_in, request
@@ -47,6 +47,7 @@ class Deed:
         self.is_choice = self.is_bound = self.is_eager = False
         # where a WRITE with APPEND stood in the file, if a READ told it
         self.rank: Optional[int] = None
+        self.is_appended = False
 
     def number(self) -> int:
         """The number of what it makes."""

@@ -151,8 +151,9 @@ def note(deed: Deed, files: dict[tuple[bytes, ...], Appends], opened: dict[bytes
     if name == "OPEN" and reply is not None and reply.name == "HANDLE":
         file = files.setdefault(state.path(fields[0]).parts, Appends())
         opened[reply.fields[0]] = file, bool(fields[1] & packets.APPEND)
-    elif name == "WRITE" and fields[0] in opened and opened[fields[0]][1] and len(fields[2]) >= LEAST:
-        if not deed.is_refused():
+    elif name == "WRITE" and fields[0] in opened and opened[fields[0]][1]:
+        deed.is_appended = True
+        if len(fields[2]) >= LEAST and not deed.is_refused():
             opened[fields[0]][0].writes.setdefault(fields[2], []).append(deed)
     elif name == "READ" and fields[0] in opened and reply is not None and reply.name == "DATA":
         opened[fields[0]][0].picture.add(fields[1], reply.fields[0])
