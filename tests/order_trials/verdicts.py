@@ -177,4 +177,5 @@ def bounded(steps, folder):
     steps.check("a search that comes to its bound is undecided", found[0] == 4 and "in 1 steps" in found[1], found)
 
 
-TRIALS = (overlapping, in_sequence, not_modelled, beyond, in_pages, handles, without_reply, in_parts, torn, orders, bounded)
+TRIALS = (overlapping, in_sequence, not_modelled, beyond, in_pages, handles, without_reply, in_parts, torn, orders,
+          bounded)
