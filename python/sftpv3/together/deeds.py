@@ -75,6 +75,15 @@ class Deed:
             act.prepare()
 
 
+class Choice:
+    """A request that was chosen, or left out, and how long the log and the order were before."""
+
+    __slots__ = ("log", "order", "session", "is_left_out", "deed")
+
+    def __init__(self, log: int, order: int, session: int, is_left_out: bool, deed: Deed):
+        self.log, self.order, self.session, self.is_left_out, self.deed = log, order, session, is_left_out, deed
+
+
 def changes(deed: Deed, act: Request) -> bool:
     """Whether a request that was done changes the tree."""
     if isinstance(act, changing.Opening):

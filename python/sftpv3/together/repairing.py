@@ -7,13 +7,10 @@ changed what the wrong reply looks at, or what a later one that matters looked a
 from __future__ import annotations
 
 from itertools import islice
-from typing import TYPE_CHECKING, Any, Optional
+from typing import Any, Optional
 
-from sftpv3.together.deeds import Deed
+from sftpv3.together.deeds import Choice, Deed
 from sftpv3.together.states import Trace
-
-if TYPE_CHECKING:
-    from sftpv3.together.searching import Choice
 
 # How many choices back, for each session and in all; and how many repairs are tried at one reply.
 BACK, LEAST_BACK, MOST_BACK, ATTEMPTS = 5, 16, 120, 400
@@ -70,7 +67,7 @@ class Repairs:
         state.trace = None
         return trace
 
-    def traces(self, first: int, choices: list["Choice"]) -> Optional[list[Trace]]:
+    def traces(self, first: int, choices: list[Choice]) -> Optional[list[Trace]]:
         """Does the last choices again, and notes of each what it looks at and changes."""
         search, found = self.search, []
         search.back_to(first)
@@ -98,7 +95,7 @@ class Repairs:
                 if session != chosen and not is_left_out
                 and self.trace_next(search.head(session)).clashes(trace)]
 
-    def put_before(self, goal: Deed, count: int, session: int, choices: list["Choice"]) -> bool:
+    def put_before(self, goal: Deed, count: int, session: int, choices: list[Choice]) -> bool:
         """Has the next request of a session go before these choices, and does the goal then, if it is right."""
         search = self.search
         search.back_to(count)

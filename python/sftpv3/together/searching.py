@@ -17,7 +17,7 @@ from __future__ import annotations
 from collections.abc import Callable, Iterator
 from typing import TYPE_CHECKING, Optional
 
-from sftpv3.together.deeds import LEFT_OUT, NEVER, WHOLE, Deed
+from sftpv3.together.deeds import LEFT_OUT, NEVER, WHOLE, Choice, Deed
 from sftpv3.together.states import State
 
 if TYPE_CHECKING:
@@ -45,15 +45,6 @@ Candidate = tuple[int, bool]
 
 class OutOfSteps(Exception):
     """The search came to its bound."""
-
-
-class Choice:
-    """A request that was chosen, or left out, and how long the log and the order were before."""
-
-    __slots__ = ("log", "order", "session", "is_left_out", "deed")
-
-    def __init__(self, log: int, order: int, session: int, is_left_out: bool, deed: Deed):
-        self.log, self.order, self.session, self.is_left_out, self.deed = log, order, session, is_left_out, deed
 
 
 class Search:
