@@ -28,9 +28,12 @@ class Repairs:
     def repair(self, goal: Deed) -> bool:
         """Finds one request that makes the goal right if it goes before another one. Then the goal is done, else the
         search stands where it stood."""
-        most = min(len(self.search.choices), MOST_BACK, max(LEAST_BACK, BACK * len(self.search.sessions)))
-        return self.repair_within(goal, min(most, LEAST_BACK)) or (
-            most > LEAST_BACK and self.repair_within(goal, most))
+        most = min(MOST_BACK, max(LEAST_BACK, BACK * len(self.search.sessions)))
+        return self.repair_within(goal, min(len(self.search.choices), most))
+
+    def repair_near(self, goal: Deed) -> bool:
+        """The same, among the last choices alone."""
+        return self.repair_within(goal, min(len(self.search.choices), LEAST_BACK))
 
     def repair_within(self, goal: Deed, back: int) -> bool:
         """The same, among so many of the last choices."""

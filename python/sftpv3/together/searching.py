@@ -97,7 +97,7 @@ class Search:
         """Does what is due up to a request, if that is right by a look ahead."""
         while not self.is_past(goal):
             due = self.goal()
-            if due is None or not self.go_on(due) and not self.look_ahead(due):
+            if due is None or not self.go_on(due) and not self.reach(due, 1):
                 return False
         return True
 
@@ -286,10 +286,12 @@ class Search:
             if goal is None:
                 self.leave_out_rest()
                 return True
-            if self.go_on(goal) or self.look_ahead(goal):
+            if self.go_on(goal) or self.reach(goal, 1):
                 continue
             self.note_failure(goal)
-            if repairs.repair(goal) or self.explore_near(goal, repairs):
+            if repairs.repair_near(goal) or self.look_ahead(goal) or repairs.repair(goal):
+                continue
+            if self.explore_near(goal, repairs):
                 continue
             if goal.rank is not None:
                 goal.rank = None
@@ -316,7 +318,7 @@ class Search:
 
     def look_ahead(self, goal: Deed) -> bool:
         """Does the fewest requests in flight by which the goal is done."""
-        return any(self.reach(goal, depth) for depth in range(1, DEPTH + 1))
+        return any(self.reach(goal, depth) for depth in range(2, DEPTH + 1))
 
     def reach(self, goal: Deed, depth: int) -> bool:
         count = len(self.choices)
