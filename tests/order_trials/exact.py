@@ -6,7 +6,7 @@ import time
 
 from order_trials import reference
 from sftpv3.codec import APPEND, CREAT, EXCL, READ, TRUNC, WRITE, Packet, Request, trees
-from sftpv3.together import deeds, others, profiles, searching, sets, states, teaching
+from sftpv3.together import checking, deeds, others, profiles, searching, sets, states, teaching
 
 # How many sets are tried, unless ORDER_SETS says otherwise.
 SETS = int(os.environ.get("ORDER_SETS", "300"))
@@ -121,7 +121,7 @@ def deeds_of(sessions):
     return found
 
 
-def searched(sessions, names, parts, tolerance, most=0):
+def searched(sessions, names, parts, tolerance, most=0, bound=10**7):
     """What the search says, with at most so many changes of others."""
     tree = start_tree()
     state, profile = states.State(tree, len(sessions) + 1), profiles.Profile(frozenset(names))
@@ -130,8 +130,20 @@ def searched(sessions, names, parts, tolerance, most=0):
         deed.prepare(state, profile, parts)
     teaching.teach(found, state)
     ghost = others.Others(found, state, profile, [b"/"], most) if most else None
-    search = searching.Search(found, state, tolerance, 10**7, ghost)
-    return search.run()
+    search = searching.Search(found, state, tolerance, bound, ghost)
+    is_found = search.run()
+    if is_found:
+        keep_order(found, [done for done in search.order if done[0].session < len(found)], tolerance)
+    return is_found
+
+
+def keep_order(sessions, order, tolerance):
+    """Raises AssertionError unless what the search found keeps to the sessions and to the clock."""
+    spans = [[checking.Span(deed.asked, None if deed.reply is None else deed.answered, len(deed.acts))
+              for deed in session] for session in sessions]
+    places = [checking.Place(deed.session, part) for deed, part in order]
+    why = checking.first_fault(spans, places, tolerance)
+    assert why is None, why
 
 
 def compare(seed):
@@ -251,4 +263,20 @@ def small_sets(steps, _):
                 not wrong and with_order and without, wrong)
 
 
-TRIALS = (small_sets, small_sets_with_others)
+def in_turn(steps, _):
+    """What is done again keeps the clock: nothing comes before a request that was answered before it was asked."""
+    done = Packet(1, "STATUS", [0, b"", b""])
+    one, other = (reference.One(session, 200 * session, 200 * session + 100, Request(1, "MKDIR", [path, {}]), done)
+                  for session, path in enumerate((b"x", b"y")))
+    found = deeds_of([[one], [other]])
+    state = states.State(start_tree(), 2)
+    for deed in (deed for it in found for deed in it):
+        deed.prepare(state, profiles.Profile(frozenset()), deeds.Parts(False, False))
+    search = searching.Search(found, state, 0, 100)
+    is_found, choices = search.run(), list(search.choices)
+    search.back_to(0)
+    steps.check("what is done again comes in its turn", is_found and len(choices) == 2 and not search.redo(choices[1])
+                and search.redo(choices[0]) and search.redo(choices[1]))
+
+
+TRIALS = (in_turn, small_sets, small_sets_with_others)

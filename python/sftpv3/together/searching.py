@@ -226,9 +226,10 @@ class Search:
         return True
 
     def redo(self, choice: Choice) -> bool:
-        """Does again what was chosen, if it is next and right."""
-        if choice.session < len(self.sessions) and self.head(choice.session) is not choice.deed:
-            return False
+        """Does again what was chosen, if it may be next and is right."""
+        if choice.session < len(self.sessions):
+            if self.head(choice.session) is not choice.deed or choice.deed.asked > self.limit():
+                return False
         return self.choose(choice.session, choice.is_left_out)
 
     def next_part(self, session: int, deed: Deed) -> int:
