@@ -253,11 +253,11 @@ class Search:
             deed = self.head(session)
             if deed is not None and deed.asked <= limit and not self.is_absorbed(deed):
                 usual = self.usual.get(deed, NEVER)
-                found.append((self.is_early(deed), usual, due, session, False))
+                found.append((not self.is_placed(deed), self.is_early(deed), usual, due, session, False))
                 if deed.reply is None:
-                    found.append((True, usual, due, session, True))
+                    found.append((True, True, usual, due, session, True))
         found.sort()
-        candidates = [(session, is_left_out) for _, _, _, session, is_left_out in found]
+        candidates = [(session, is_left_out) for *_, session, is_left_out in found]
         if self.others is not None and self.is_exploring and not self.others.is_full():
             candidates += [(len(self.sessions) + number, False) for number in self.others.everywhere]
         return candidates
@@ -270,6 +270,10 @@ class Search:
         """Whether a READ says that the file was longer or shorter when a request appended to it. An exploration asks
         no READ."""
         return deed.rank is not None and not self.is_exploring and deed.rank != self.size_at(deed)
+
+    def is_placed(self, deed: Deed) -> bool:
+        """Whether a READ says that a request appended to the file just as it is."""
+        return deed.rank is not None and deed.rank == self.size_at(deed)
 
     def size_at(self, deed: Deed) -> int:
         opened = self.state.opened(deed.session, deed.request.fields[0])
