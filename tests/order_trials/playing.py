@@ -70,8 +70,11 @@ def play(workload, number, seed, count, words, start):
 
 
 def server(folder, fault=None, seed=0):
-    """The words that start a server in a folder, right or with a fault."""
-    words = [SFTP_SERVER, "-d", folder]
+    """The words that start a server in a folder, right or with a fault: OpenSSH's, or, if ORDER_SERVER says `asyncssh`,
+    that of asyncssh, or the program that it names."""
+    name = os.environ.get("ORDER_SERVER")
+    own = ["/usr/bin/python3", os.path.join(TOP, "tests", "order_trials", "asyncssh_server.py")]
+    words = ["env", "-C", folder, *(own if name == "asyncssh" else [name])] if name else [SFTP_SERVER, "-d", folder]
     return words if fault is None else [*FAULTY, fault, str(seed), *words]
 
 

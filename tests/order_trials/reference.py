@@ -9,7 +9,7 @@ import itertools
 
 from model import replies as model
 from model.trees import tree_of
-from sftpv3.codec import Packet, trees
+from sftpv3.codec import Packet, Request, trees
 
 FIELDS = ("size", "permissions", "times", "owner")
 MAKERS = {"MKDIR": 0, "SYMLINK": 1, "OPEN": 0, "HARDLINK": 1, "RENAME": 1, "POSIX-RENAME": 1}
@@ -137,23 +137,27 @@ class TooMany(Exception):
 
 
 class Brute:
-    """All orders, state by state."""
+    """All orders, state by state; with up to so many changes of others at any places."""
 
-    def __init__(self, sessions, tolerance, most):
-        self.sessions, self.tolerance, self.left = sessions, tolerance, most
+    def __init__(self, sessions, tolerance, most, changes):
+        self.sessions, self.tolerance, self.left, self.changes = sessions, tolerance, most, changes
         self.all = list(itertools.chain(*sessions))
 
-    def has_order(self, state, heads, done):
-        """Whether what is left has an order from here. `done` has, for each session, the units of its next request."""
+    def has_order(self, state, heads, done, others=0):
+        """Whether what is left has an order from here. `done` has, for each session, the units of its next request, and
+        `others` says how many changes of others may still come."""
         self.left -= 1
         if self.left < 0:
             raise TooMany
         rest = [one for one in self.all if self.is_left(one, heads)]
         if all(one.reply is None for one in rest):
             return True
-        return any(self.goes_on(state, heads, done, session) for session in range(len(heads))
-                   if heads[session] < len(self.sessions[session])
-                   and self.may_be_next(self.sessions[session][heads[session]], rest))
+        if any(self.goes_on(state, heads, done, session, others) for session in range(len(heads))
+               if heads[session] < len(self.sessions[session])
+               and self.may_be_next(self.sessions[session][heads[session]], rest)):
+            return True
+        return others > 0 and any(self.has_order(now, heads, done, others - 1)
+                                  for now in filter(None, (changed_by(state, change) for change in self.changes)))
 
     def is_left(self, one, heads):
         return self.sessions[one.session].index(one) >= heads[one.session]
@@ -161,7 +165,7 @@ class Brute:
     def may_be_next(self, one, rest):
         return all(other.answered is None or other.answered + self.tolerance >= one.asked for other in rest)
 
-    def goes_on(self, state, heads, done, session):
+    def goes_on(self, state, heads, done, session, others):
         one = self.sessions[session][heads[session]]
         units = [at for at in range(len(one.units)) if at not in done[session]]
         for at in units[:1] if one.is_ordered else units:
@@ -169,9 +173,9 @@ class Brute:
             had = done[session] | {at}
             is_whole = len(had) == len(one.units)
             if self.does(now, one, at) and self.has_order(now, stepped(heads, session, is_whole), changed(
-                    done, session, frozenset() if is_whole else had)):
+                    done, session, frozenset() if is_whole else had), others):
                 return True
-        return one.reply is None and self.has_order(state, stepped(heads, session, True), done)
+        return one.reply is None and self.has_order(state, stepped(heads, session, True), done, others)
 
     def does(self, state, one, at):
         request, reply = one.units[at]
@@ -179,6 +183,22 @@ class Brute:
             state.answer(joint(one.session, request))
             return True
         return state.takes(one.session, request, reply)
+
+
+def changed_by(state, change):
+    """The state after the requests of a change of others, or None if one of them is refused. A handle is None in them:
+    it is that which the first one gets."""
+    now, handle = copy.deepcopy(state), None
+    for name, fields in change:
+        before = dict(now.tree.nodes)
+        request = Request(1, name, [handle if field is None else field for field in fields])
+        reply = now.answer(request)
+        if reply.name == "STATUS" and reply.fields[0]:
+            return None
+        handle = reply.fields[0] if reply.name == "HANDLE" else handle
+        if now.tree.nodes != before:
+            now.shift(request, before)
+    return now
 
 
 def stepped(heads, session, is_whole):
@@ -189,8 +209,8 @@ def changed(done, session, had):
     return tuple(had if at == session else it for at, it in enumerate(done))
 
 
-def has_order(sessions, tree, tolerance=0, has_listing=False, most=200_000):
-    """Whether an order explains sessions, lists of `One`."""
-    brute = Brute(sessions, tolerance, most)
+def has_order(sessions, tree, tolerance=0, has_listing=False, most=200_000, changes=(), others=0):
+    """Whether an order explains sessions, lists of `One`, with so many of the changes of others at most."""
+    brute = Brute(sessions, tolerance, most, changes)
     count = len(sessions)
-    return brute.has_order(Joint(tree, has_listing), (0,) * count, (frozenset(),) * count)
+    return brute.has_order(Joint(tree, has_listing), (0,) * count, (frozenset(),) * count, others)

@@ -9,14 +9,16 @@ from trials.other_servers import has_openssh
 SEEDS = int(os.environ.get("ORDER_SEEDS", "1"))
 CLIENTS, REQUESTS = (2, 4), 200
 
-WORDS = {0: "accepted", 1: "refused", 4: "undecided"}
+# Workloads with WRITEs into several pages, which a server may show in the midst of one.
+WIDE = ("append", "big")
 
 
 def tried(steps, folder, workload, clients, seed):
     place = os.path.join(folder, f"{workload}-{clients}-{seed}")
     make_set(place, workload, seed, clients, REQUESTS)
-    status, said = together(place, "--profile", "posix")
-    steps.check(f"{workload}, {clients} clients, seed {seed}", status == 0, said)
+    status, said = together(place, "--profile", "posix", "--torn", "4096")
+    is_torn = workload in WIDE and status == 4 and "pages" in said
+    steps.check(f"{workload}, {clients} clients, seed {seed}", status == 0 or is_torn, said)
 
 
 def openssh(steps, folder):

@@ -68,6 +68,40 @@ def not_modelled(steps, folder):
     steps.check("nor where a directory moves that may be too deep", status == 4 and "deep" in said, said)
 
 
+def beyond(steps, folder):
+    """A refusal is none where the audit would say NotModelled, or where nobody knows what was done."""
+    late = {"a": remover(), "b": lock(1039, 1200, OPENED)}
+    posix = ("--profile", "posix")
+    many = Session()
+    for at in range(trees.USUAL[3] + 1):
+        many.ask(0, 0, ("OPEN", b"/lock", READ, {}), ("HANDLE", struct.pack(">I", at)))
+    sets.put(folder, {**late, "c": many}, entries=LOCK)
+    found = together(folder, *posix)
+    steps.check("no set of more handles than the tree allows is refused", found[0] == 4 and "beyond" in found[1], found)
+    steps.check("strictly they are", together(folder)[0] == 1)
+    for name, session, word in (
+            ("an extension that did something", Session().ask(1, 9, ("EXTENDED", b"x@y", b""), OK), "extension"),
+            ("a CLOSE without a reply, and its handle", Session().ask(1, 9, ("OPEN", b"/lock", READ, {}), OPENED).ask(
+                10, None, ("CLOSE", HANDLE), None).ask(11, 19, ("FSTAT", HANDLE), ABSENT), "without a reply"),
+            ("a SETSTAT without a reply", Session().ask(
+                1, None, ("SETSTAT", b"/lock", {"size": 1, "permissions": 0}), None), "which fields")):
+        sets.put(folder, {**late, "c": session}, entries=LOCK)
+        found = together(folder, *posix)
+        steps.check(f"nor sets with {name}", found[0] == 4 and word in found[1], found)
+
+
+def in_pages(steps, folder):
+    """A server adds the bytes of a WRITE page by page, and the file shows it."""
+    entries = [trees.Entry(b"/f", trees.FILE, bytes(4090), 0, 0, 0o644)]
+    for name, place, shown, status in (("between two pages", 4090, 4096, 4), ("within one", 4080, 4086, 1)):
+        writer = Session().ask(0, 9, ("OPEN", b"/f", WRITE, {}), OPENED).ask(
+            100, 200, ("WRITE", HANDLE, place, b"x" * 14), OK)
+        told = "ATTRS", {"size": shown, "owner": (0, 0), "permissions": 0o100644}
+        sets.put(folder, {"a": writer, "b": Session().ask(140, 150, ("STAT", b"/f"), told)}, entries=entries)
+        found = together(folder, "--profile", "posix")
+        steps.check(f"a size in the midst of a WRITE, {name}", found[0] == status, found)
+
+
 def handles(steps, folder):
     """Both sessions have a handle of the same name, each of its own file."""
     one, other = Session(), Session()
@@ -143,4 +177,5 @@ def bounded(steps, folder):
     steps.check("a search that comes to its bound is undecided", found[0] == 4 and "in 1 steps" in found[1], found)
 
 
-TRIALS = (overlapping, in_sequence, not_modelled, handles, without_reply, in_parts, torn, orders, bounded)
+TRIALS = (overlapping, in_sequence, not_modelled, beyond, in_pages, handles, without_reply, in_parts, torn, orders,
+          bounded)

@@ -58,7 +58,11 @@ def mix(client, number, choice, count):
 
 
 def one_path(client, choice, path, other):
+    """A request with a path. The directory stays where it is: OpenSSH's server lists one that moved without its
+    names, which one session alone shows."""
     name = choice.choice(["STAT", "LSTAT", "REMOVE", "RMDIR", "READLINK", "POSIX-RENAME"])
+    if name == "POSIX-RENAME" and path == b"d":
+        path = b"d/a"
     client.ask(name, path, *([other] if name == "POSIX-RENAME" else []))
 
 

@@ -8,6 +8,12 @@ reply was recorded; and if each reply is right where its request is done singly 
 session having handles of its own. A search looks for such an order, and `sftpv3 audit` judges the transcript of what it
 found: the search itself never says that a set is accepted.
 
+Somebody whom no session shows may have changed the files. With --others PATH the search may invent requests of such a
+one, at PATH or below it, where a reply tells of them: a WRITE, SETSTAT, REMOVE, RMDIR, MKDIR or SYMLINK, or an OPEN
+that makes a file. It has to be asked for, since it hides an update that the server lost: that looks the same. Each is
+printed. They are as few as the search happens to need, not the fewest, and at most --most-others; without an order, the
+verdict is `undecided` then.
+
 `refused` is said only by a search that tried all orders. It names a reply that is right in none, and a request of
 another session that contradicts it, if there is one. `undecided` is said if none was found within --steps.
 

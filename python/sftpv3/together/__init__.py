@@ -15,10 +15,12 @@ deeds      requests with their replies, in the parts in which they may be done
 teaching   what READs tell of the order of appends
 searching  the search
 repairing  one request that goes before another one, where a reply is wrong
+others     changes that no session shows, of which replies tell
 explaining why there is no order
 checking   whether an order keeps to the sessions and to the clock; it shares nothing with the search
 orders     files of orders
 merging    the transcript of an order
+inventing  the changes of others in an order, as a session
 judging    `sftpv3 audit` of that
 options    the command line
 command    the command

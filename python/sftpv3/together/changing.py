@@ -81,6 +81,9 @@ class Symlink(Making):
     def is_far(self) -> bool:
         return len(self.target) >= LONG
 
+    def is_unknown(self) -> bool:
+        return self.is_bad
+
     def causes(self, state: State) -> Causes:
         found = super().causes(state)
         return ("BadPath", *found) if self.is_bad else found

@@ -8,13 +8,14 @@ import os
 import tempfile
 from typing import Any, Optional
 
-from sftpv3.together import checking, exactness, explaining, judging, merging, orders, profiles, searching, teaching
+from sftpv3.together import (checking, exactness, explaining, inventing, judging, merging, orders, others, profiles,
+                             searching, teaching)
 from sftpv3.together.checking import Place
 from sftpv3.together.deeds import Deed
 from sftpv3.together.options import (ACCEPTED, FAILED, REFUSED, STEPS, STEPS_EACH, TOLERANCE_OF_DATES, UNDECIDED,
                                      USAGE, options, tell)
 from sftpv3.together.outside import Malformed, NotBuilt, trees
-from sftpv3.together.sets import Unfit, read_set
+from sftpv3.together.sets import TIMES, TRANSCRIPT, Unfit, read_set
 from sftpv3.together.states import State
 
 STATUS = {"accepted": ACCEPTED, "refused": REFUSED, "undecided": UNDECIDED}
@@ -45,12 +46,32 @@ class Command:
         self.sessions, is_of_boot = read_set(given.folder)
         self.deeds = [session.deeds for session in self.sessions]
         self.count = sum(map(len, self.deeds))
-        self.unknown = exactness.left_out(self.tree, self.deeds)
+        self.unknown = exactness.left_out(self.tree, self.deeds, given)
+        self.changes: list[inventing.Invented] = []
+        if given.write_others and os.path.basename(given.write_others) in (it.name for it in self.sessions):
+            raise Unfit(f"{given.write_others}: a session of the set has this name")
         usual = 0 if is_of_boot else TOLERANCE_OF_DATES
         self.tolerance = 1000 * (usual if given.tolerance is None else given.tolerance)
 
     def state(self) -> State:
-        return State(self.tree, len(self.sessions))
+        return State(self.tree, len(self.sessions) + 1)
+
+    def others(self, state: State) -> Optional[others.Others]:
+        """The changes that others may have made, if the options let there be some."""
+        if not self.given.others:
+            return None
+        self.unknown = self.unknown or "all changes that others may have made"
+        return others.Others(self.deeds, state, self.given.by, self.given.others, self.given.most_others)
+
+    def add_others(self, search: searching.Search) -> None:
+        """Puts the changes that were found to the set, as the last one of its sessions."""
+        if search.others is not None and search.others.count:
+            name = os.path.basename(self.given.write_others or inventing.free_name(self.sessions))
+            found = inventing.session_of(search.order, self.sessions, name, self.state)
+            search.order, self.changes = found.order, found.changes
+            if found.changes:
+                self.sessions.append(found.session)
+                self.deeds.append(found.session.deeds)
 
     def run(self) -> Verdict:
         if self.given.order:
@@ -60,13 +81,15 @@ class Command:
             deed.prepare(state, self.given.by, self.given.parts)
         teaching.teach(self.deeds, state)
         bound = STEPS + STEPS_EACH * self.count if self.given.steps is None else self.given.steps
-        search = searching.Search(self.deeds, state, self.tolerance, bound)
+        search = searching.Search(self.deeds, state, self.tolerance, bound, self.others(state))
         try:
             found = search.run()
         except searching.OutOfSteps:
             return self.undecided(search)
         if not found:
+            self.unknown = self.unknown or exactness.met(search, self.given)
             return self.refused(search) if self.unknown is None else self.unsure(search)
+        self.add_others(search)
         return self.judge([Place(deed.session, part) for deed, part in whole_where_together(search.order)])
 
     # orders
@@ -96,16 +119,34 @@ class Command:
         return self.accepted(places)
 
     def accepted(self, places: list[Place]) -> Verdict:
-        if self.given.write_order:
-            names = [session.name for session in self.sessions]
-            judging.write(self.given.write_order, [orders.put(orders.Order(names, self.given.parts.piece, places))])
+        self.write(places)
         divided = len({(place.session, number) for place, number in numbered(places) if number is not None})
         left_out = sum(place.part == checking.LEFT_OUT for place in places)
-        text = f"accepted {self.count} requests in {len(self.sessions)} sessions"
+        recorded = len(self.sessions) - bool(self.changes)
+        text = f"accepted {self.count} requests in {recorded} sessions"
         text += f", {divided} of them in parts" if divided else ""
         text += f", {left_out} without a reply left out" if left_out else ""
-        return Verdict("accepted", text, requests=self.count, sessions=len(self.sessions), in_parts=divided,
-                       left_out=left_out)
+        told: dict[str, Any] = {"requests": self.count, "sessions": recorded, "in_parts": divided, "left_out": left_out}
+        if self.changes:
+            text += f", with {len(self.changes)} unknown change{'s' * (len(self.changes) > 1)}"
+            text += "".join(f"\n  {self.where(it)}: {it.text}" for it in self.changes)
+            told["unknown_changes"] = [{"change": it.text, **(self.named(it.before) if it.before else {})}
+                                       for it in self.changes]
+        return Verdict("accepted", text, **told)
+
+    def where(self, change: inventing.Invented) -> str:
+        return f"before {self.place(change.before)}" if change.before else "at the end"
+
+    def write(self, places: list[Place]) -> None:
+        """Writes the order, and the session of others, as the options say."""
+        if self.given.write_order:
+            names = [session.name for session in self.sessions]
+            judging.write(self.given.write_order, [orders.put(orders.by_names(names, self.given.parts.piece, places))])
+        if self.given.write_others and self.changes:
+            others_session = self.sessions[-1]
+            name = self.given.write_others
+            judging.write(name + TRANSCRIPT, [inventing.transcript(others_session.deeds)])
+            judging.write(name + TIMES, [inventing.times(others_session.deeds, self.given.folder, self.sessions[:-1])])
 
     # what is told where there is no order
 

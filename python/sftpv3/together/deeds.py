@@ -37,7 +37,7 @@ class Deed:
     parts, and `is_choice` says whether they change anything beyond what their own session has open."""
 
     __slots__ = ("session", "index", "asked", "answered", "asked_in", "answered_in", "request", "reply", "deadline",
-                 "acts", "is_choice", "is_bound", "is_eager", "rank")
+                 "acts", "is_choice", "is_bound", "is_eager", "rank", "is_appended")
 
     def __init__(self, session: int, index: int, asked: int, asked_in: int, request: packets.Packet):
         self.session, self.index, self.asked, self.asked_in, self.request = session, index, asked, asked_in, request
@@ -47,6 +47,7 @@ class Deed:
         self.is_choice = self.is_bound = self.is_eager = False
         # where a WRITE with APPEND stood in the file, if a READ told it
         self.rank: Optional[int] = None
+        self.is_appended = False
 
     def number(self) -> int:
         """The number of what it makes."""
@@ -72,6 +73,15 @@ class Deed:
             self.acts = parts_of(self, whole, profile, parts)
         for act in self.acts:
             act.prepare()
+
+
+class Choice:
+    """A request that was chosen, or left out, and how long the log and the order were before."""
+
+    __slots__ = ("log", "order", "session", "is_left_out", "deed")
+
+    def __init__(self, log: int, order: int, session: int, is_left_out: bool, deed: Deed):
+        self.log, self.order, self.session, self.is_left_out, self.deed = log, order, session, is_left_out, deed
 
 
 def changes(deed: Deed, act: Request) -> bool:

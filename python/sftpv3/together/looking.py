@@ -213,6 +213,10 @@ class Unknown(Request):
     def causes(self, state: State) -> Causes:
         return ("Unknown",)
 
+    def is_unknown(self) -> bool:
+        is_end = self.reply is not None and self.reply.name == "STATUS" and self.reply.fields[0] == 1
+        return self.profile.extensions and not is_end and not self.only_looks()
+
     def act(self, state: State) -> bool:
         if self.code is not None and self.profile.extensions:
             return True

@@ -7,7 +7,7 @@ import sys
 
 from sftpv3.together import profiles
 from sftpv3.together.deeds import Parts
-from sftpv3.together.outside import Parser, called
+from sftpv3.together.outside import Parser, called, trees
 
 # The exit statuses.
 ACCEPTED, REFUSED, USAGE, FAILED, UNDECIDED = range(5)
@@ -17,6 +17,9 @@ STEPS, STEPS_EACH = 1_000_000, 50
 
 # Microseconds by which times of files without a boot may be wrong; a reading of two clocks lies between.
 TOLERANCE_OF_DATES = 20
+
+# How many changes of others an order may have.
+MOST_OTHERS = 3
 
 PARTS = ("names", "fields")
 MOST_PIECE = 2**32 - 1
@@ -82,6 +85,19 @@ def add_more(add) -> None:
     add("--write-order", metavar="FILE", help="write the order that was found")
     add("--write-transcript", metavar="FILE", help="write the transcript of the order, which `sftpv3 audit` judges")
     add("--json", action="store_true", help="print the verdict as one line of JSON")
+    add_others(add)
+
+
+def add_others(add) -> None:
+    """The options for changes that no session shows."""
+    add("--others", metavar="PATH", action="append", default=[], type=os.fsencode,
+        help="somebody whom no session shows may have changed what is at this path or below it, where a reply tells of "
+             "it (repeatable); each such change is printed, and may hide an update that the server lost")
+    add("--most-others", metavar="K", type=number, default=MOST_OTHERS,
+        help=f"the most changes of others ({MOST_OTHERS})")
+    add("--write-others", metavar="FILE",
+        help="write these changes as a session, FILE.transcript and FILE.times; in DIR, it makes the set an ordinary "
+             "one")
 
 
 def options(about: str) -> argparse.Namespace:
@@ -95,6 +111,13 @@ def options(about: str) -> argparse.Namespace:
     given.parts = parts(found, given)
     if given.order and given.write_order:
         found.error("--order and --write-order exclude each other")
+    if given.order and given.others:
+        found.error("--order and --others exclude each other: put what --write-others wrote into DIR")
+    if given.write_others and not given.others:
+        found.error("--write-others needs --others")
+    for path in given.others:
+        if not trees.is_good_path(path) or path[:1] != b"/" or b".." in path.split(b"/"):
+            found.error(f"--others: {os.fsdecode(path)!r} is no absolute path of the tree")
     return given
 
 

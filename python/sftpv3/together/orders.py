@@ -16,6 +16,13 @@ class Order:
         self.names, self.piece, self.places = names, piece, places
 
 
+def by_names(names: list[str], piece: int, places: list[Place]) -> Order:
+    """An order of sessions with these names, which get their numbers by rising names."""
+    rising = sorted(names)
+    numbers = [rising.index(name) for name in names]
+    return Order(rising, piece, [Place(numbers[place.session], place.part) for place in places])
+
+
 def put(order: Order) -> bytes:
     head = [OPENING, uint32(len(order.names)), *(string(name.encode(errors="surrogateescape")) for name in order.names)]
     numbers = [number for place in order.places for number in place]

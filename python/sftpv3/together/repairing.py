@@ -9,7 +9,7 @@ from __future__ import annotations
 from itertools import islice
 from typing import Any, Optional
 
-from sftpv3.together.deeds import Deed
+from sftpv3.together.deeds import Choice, Deed
 from sftpv3.together.states import Trace
 
 # How many choices back, for each session and in all; and how many repairs are tried at one reply.
@@ -28,22 +28,30 @@ class Repairs:
     def repair(self, goal: Deed) -> bool:
         """Finds one request that makes the goal right if it goes before another one. Then the goal is done, else the
         search stands where it stood."""
+        most = min(MOST_BACK, max(LEAST_BACK, BACK * len(self.search.sessions)))
+        return self.repair_within(goal, min(len(self.search.choices), most))
+
+    def repair_near(self, goal: Deed) -> bool:
+        """The same, among the last choices alone."""
+        return self.repair_within(goal, min(len(self.search.choices), LEAST_BACK))
+
+    def repair_within(self, goal: Deed, back: int) -> bool:
+        """The same, among so many of the last choices."""
         search = self.search
-        back = min(len(search.choices), MOST_BACK, max(LEAST_BACK, BACK * len(search.sessions)))
         first = len(search.choices) - back
-        deeds = [choice.deed for choice in search.choices[first:]]
+        choices = search.choices[first:]
         needs = self.trace_of(goal)
-        traces = self.traces(first, deeds)
+        traces = self.traces(first, choices)
         if traces is None:
             return False
         matters, self.needed = which_matter(traces, needs)
         pairs = ((at, session) for at in reversed(range(back)) if matters[at]
-                 for session in self.rivals(first + at, traces[at], deeds[at]))
+                 for session in self.rivals(first + at, traces[at], choices[at].session))
         for at, session in islice(pairs, ATTEMPTS):
-            if self.put_before(goal, first + at, session, deeds[at:]):
+            if self.put_before(goal, first + at, session, choices[at:]):
                 return True
         search.back_to(first)
-        search.follow(deeds)
+        search.follow(choices)
         return False
 
     def only_needed(self, candidates: list[tuple[int, bool]]) -> list[tuple[int, bool]]:
@@ -62,13 +70,13 @@ class Repairs:
         state.trace = None
         return trace
 
-    def traces(self, first: int, deeds: list[Deed]) -> Optional[list[Trace]]:
+    def traces(self, first: int, choices: list[Choice]) -> Optional[list[Trace]]:
         """Does the last choices again, and notes of each what it looks at and changes."""
         search, found = self.search, []
         search.back_to(first)
-        for deed in deeds:
-            found.append(self.trace_next(deed))
-            if search.head(deed.session) is not deed or not search.choose(deed.session):
+        for choice in choices:
+            found.append(Trace() if choice.is_left_out else self.trace_next(choice.deed))
+            if not search.redo(choice):
                 return None
         return found
 
@@ -82,27 +90,27 @@ class Repairs:
         state.trace = None
         return trace
 
-    def rivals(self, count: int, trace: Trace, chosen: Deed) -> list[int]:
+    def rivals(self, count: int, trace: Trace, chosen: int) -> list[int]:
         """The sessions whose next request could have gone before the choice, and matters to it."""
         search = self.search
         search.back_to(count)
         return [session for session, is_left_out in search.candidates()
-                if session != chosen.session and not is_left_out
+                if session != chosen and not is_left_out
                 and self.trace_next(search.head(session)).clashes(trace)]
 
-    def put_before(self, goal: Deed, count: int, session: int, deeds: list[Deed]) -> bool:
+    def put_before(self, goal: Deed, count: int, session: int, choices: list[Choice]) -> bool:
         """Has the next request of a session go before these choices, and does the goal then, if it is right."""
         search = self.search
         search.back_to(count)
-        moved = search.head(session)
-        if moved is None or (goal, moved, deeds[0]) in self.tried or not search.choose(session):
+        moved, other = search.head(session), choices[0].deed
+        if moved is None or (goal, moved, other) in self.tried or not search.choose(session):
             return False
-        self.tried.add((goal, moved, deeds[0]))
-        search.follow([deed for deed in deeds if deed is not moved])
-        if not search.is_done(goal) and not search.look_ahead(goal):
+        self.tried.add((goal, moved, other))
+        search.follow([choice for choice in choices if choice.deed is not moved])
+        if not search.gets_past(goal):
             return False
         if moved is not goal:
-            search.waits.setdefault(deeds[0], set()).add(moved)
+            search.waits.setdefault(other, set()).add(moved)
         return True
 
 

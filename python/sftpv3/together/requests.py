@@ -46,6 +46,10 @@ class Request:
         """Whether it may need room on a disk."""
         return False
 
+    def is_unknown(self) -> bool:
+        """Whether nobody knows what the request did, if it was done."""
+        return False
+
     def is_far(self) -> bool:
         """Whether it reads or writes bytes that a server may not have."""
         return False
@@ -65,7 +69,10 @@ class Request:
     def act(self, state: State) -> bool:
         """Whether the reply is right in this state, which is that after the request then."""
         if self.code is None:
-            return not self.causes(state) and self.done(state)
+            causes = self.causes(state)
+            if "NoRoom" in causes or self.is_unknown():
+                state.is_beyond = True
+            return not causes and self.done(state)
         return self.is_forgiven or self.is_refused(state)
 
     def is_refused(self, state: State) -> bool:

@@ -17,10 +17,11 @@ from __future__ import annotations
 from collections.abc import Callable, Iterator
 from typing import TYPE_CHECKING, Optional
 
-from sftpv3.together.deeds import LEFT_OUT, NEVER, Deed
+from sftpv3.together.deeds import LEFT_OUT, NEVER, WHOLE, Choice, Deed
 from sftpv3.together.states import State
 
 if TYPE_CHECKING:
+    from sftpv3.together.others import Others
     from sftpv3.together.repairing import Repairs
 
 # How many choices back the search goes at first, and by which factor it goes further.
@@ -31,6 +32,9 @@ NEARBY, NEARBY_STEPS = (8, 24, 72), 6000
 
 # How many of the requests in flight are tried before another one, without a look at what is between.
 DEPTH = 3
+
+# How many changes of others are tried for one reply, one with another, and how many steps that may take.
+DEPTH_OF_OTHERS, MOST_STEPS = 3, 3000
 
 # A part of the order: the request, and the number of the part.
 Done = tuple[Deed, int]
@@ -43,21 +47,14 @@ class OutOfSteps(Exception):
     """The search came to its bound."""
 
 
-class Choice:
-    """A request that was chosen, or left out, and how long the log and the order were before."""
-
-    __slots__ = ("log", "order", "session", "is_left_out", "deed")
-
-    def __init__(self, log: int, order: int, session: int, is_left_out: bool, deed: Deed):
-        self.log, self.order, self.session, self.is_left_out, self.deed = log, order, session, is_left_out, deed
-
-
 class Search:
     """A search through sessions. `heads` has the next request of each, `parts` which parts of it were done, as bits,
     and `due` its deadline."""
 
-    def __init__(self, sessions: list[list[Deed]], state: State, tolerance: int, bound: int):
+    def __init__(self, sessions: list[list[Deed]], state: State, tolerance: int, bound: int,
+                 others: Optional["Others"] = None):
         self.sessions, self.state, self.tolerance, self.bound = sessions, state, tolerance, bound
+        self.others = others
         self.heads, self.parts = [0] * len(sessions), [0] * len(sessions)
         self.due = [self.deadline(session, 0) for session in range(len(sessions))]
         self.order: list[Done] = []
@@ -90,6 +87,19 @@ class Search:
 
     def is_done(self, deed: Deed) -> bool:
         return self.heads[deed.session] > deed.index
+
+    def is_past(self, goal: Deed) -> bool:
+        """Whether a request is done, and all that are due before it: only so the search gets on."""
+        at = goal.deadline, goal.session
+        return all(at < (due, session) for session, due in enumerate(self.due))
+
+    def gets_past(self, goal: Deed) -> bool:
+        """Does what is due up to a request, if that is right by a look ahead."""
+        while not self.is_past(goal):
+            due = self.goal()
+            if due is None or not self.go_on(due) and not self.reach(due, 1):
+                return False
+        return True
 
     def goal(self) -> Optional[Deed]:
         """The request whose deadline is next; None if none is left that was answered."""
@@ -170,6 +180,8 @@ class Search:
     def choose(self, session: int, is_left_out: bool = False) -> bool:
         """Does the next part of a request that changes something, if that is right, and what is right then. A request
         that got no reply may be left out."""
+        if session >= len(self.sessions):
+            return self.invent(session - len(self.sessions))
         deed = self.head(session)
         state = self.state
         log, order = len(state.log), len(self.order)
@@ -177,6 +189,8 @@ class Search:
         if is_left_out:
             self.order.append((deed, LEFT_OUT))
             self.advance(session)
+        elif self.is_misplaced(deed):
+            return False
         else:
             at = self.next_part(session, deed)
             state.log.append((setattr, state, "step", state.step))
@@ -189,6 +203,34 @@ class Search:
         self.version += 1
         self.absorb()
         return True
+
+    def invent(self, number: int) -> bool:
+        """Has somebody whom no session shows make the change with this number, if that is right."""
+        state, others = self.state, self.others
+        if others is None or others.is_full():
+            return False
+        log, order = len(state.log), len(self.order)
+        self.count()
+        deed = others.deed(number)
+        state.log.append((setattr, state, "step", state.step))
+        state.step += 1
+        if not deed.acts[0].act(state):
+            state.undo(log)
+            return False
+        state.log.append((others.set_count, others.count))
+        others.set_count(others.count + 1)
+        self.order.extend((step, WHOLE) for step in deed.steps)
+        self.choices.append(Choice(log, order, len(self.sessions) + number, False, deed))
+        self.version += 1
+        self.absorb()
+        return True
+
+    def redo(self, choice: Choice) -> bool:
+        """Does again what was chosen, if it may be next and is right."""
+        if choice.session < len(self.sessions):
+            if self.head(choice.session) is not choice.deed or choice.deed.asked > self.limit():
+                return False
+        return self.choose(choice.session, choice.is_left_out)
 
     def next_part(self, session: int, deed: Deed) -> int:
         return 0 if len(deed.acts) == 1 else self.parts[session].bit_length()
@@ -211,17 +253,27 @@ class Search:
             deed = self.head(session)
             if deed is not None and deed.asked <= limit and not self.is_absorbed(deed):
                 usual = self.usual.get(deed, NEVER)
-                found.append((self.is_early(deed), usual, due, session, False))
+                found.append((not self.is_placed(deed), self.is_early(deed), usual, due, session, False))
                 if deed.reply is None:
-                    found.append((True, usual, due, session, True))
+                    found.append((True, True, usual, due, session, True))
         found.sort()
-        return [(session, is_left_out) for _, _, _, session, is_left_out in found]
+        candidates = [(session, is_left_out) for *_, session, is_left_out in found]
+        if self.others is not None and self.is_exploring and not self.others.is_full():
+            candidates += [(len(self.sessions) + number, False) for number in self.others.everywhere]
+        return candidates
 
     def is_early(self, deed: Deed) -> bool:
-        """Whether a request had better wait: for others, or until its file is as long as a READ says that it was."""
-        if deed.rank is not None and deed.rank != self.size_at(deed):
-            return True
+        """Whether a request had better wait for others."""
         return deed in self.waits and any(not self.is_done(other) for other in self.waits[deed])
+
+    def is_misplaced(self, deed: Deed) -> bool:
+        """Whether a READ says that the file was longer or shorter when a request appended to it. An exploration asks
+        no READ."""
+        return deed.rank is not None and not self.is_exploring and deed.rank != self.size_at(deed)
+
+    def is_placed(self, deed: Deed) -> bool:
+        """Whether a READ says that a request appended to the file just as it is."""
+        return deed.rank is not None and deed.rank == self.size_at(deed)
 
     def size_at(self, deed: Deed) -> int:
         opened = self.state.opened(deed.session, deed.request.fields[0])
@@ -239,10 +291,16 @@ class Search:
             if goal is None:
                 self.leave_out_rest()
                 return True
-            if self.go_on(goal) or self.look_ahead(goal):
+            if self.go_on(goal) or self.reach(goal, 1):
                 continue
             self.note_failure(goal)
-            if not repairs.repair(goal) and not self.explore_near(goal, repairs) and not self.explore_ever_more(goal):
+            if repairs.repair_near(goal) or self.look_ahead(goal) or repairs.repair(goal):
+                continue
+            if self.explore_near(goal, repairs):
+                continue
+            if goal.rank is not None:
+                goal.rank = None
+            elif not self.invent_for(goal) and not self.explore_ever_more(goal):
                 return False
 
     def go_on(self, goal: Deed) -> bool:
@@ -265,7 +323,7 @@ class Search:
 
     def look_ahead(self, goal: Deed) -> bool:
         """Does the fewest requests in flight by which the goal is done."""
-        return any(self.reach(goal, depth) for depth in range(1, DEPTH + 1))
+        return any(self.reach(goal, depth) for depth in range(2, DEPTH + 1))
 
     def reach(self, goal: Deed, depth: int) -> bool:
         count = len(self.choices)
@@ -282,7 +340,7 @@ class Search:
         kept = self.dead, self.bound
         for back in NEARBY:
             count = max(0, len(self.choices) - back)
-            before = [choice.deed for choice in self.choices[count:]]
+            before = self.choices[count:]
             self.back_to(count)
             self.dead, self.bound = set(), min(kept[1], self.steps + NEARBY_STEPS)
             self.usual = places_in(before)
@@ -309,7 +367,7 @@ class Search:
         self.is_exploring = True
         while True:
             count = max(0, len(self.choices) - back)
-            before = [choice.deed for choice in self.choices[count:]]
+            before = self.choices[count:]
             self.back_to(count)
             if count == 0:
                 self.begin_anew()
@@ -332,11 +390,36 @@ class Search:
         self.version += 1
         self.absorb()
 
-    def follow(self, deeds: list[Deed]) -> None:
+    def follow(self, choices: list[Choice]) -> None:
         """Does these again, as far as they are right."""
-        for deed in deeds:
-            if self.head(deed.session) is deed:
-                self.choose(deed.session)
+        for choice in choices:
+            self.redo(choice)
+
+    def invent_for(self, goal: Deed) -> bool:
+        """Has somebody make the fewest changes by which the goal is done, of those of which its reply tells."""
+        if self.others is None:
+            return False
+        bound, self.bound = self.bound, min(self.bound, self.steps + MOST_STEPS)
+        count = len(self.choices)
+        try:
+            if any(self.invent_within(goal, depth) for depth in range(1, DEPTH_OF_OTHERS + 1)):
+                return True
+        except OutOfSteps:
+            self.back_to(count)
+        finally:
+            self.bound = bound
+        return False
+
+    def invent_within(self, goal: Deed, depth: int) -> bool:
+        count = len(self.choices)
+        for number in self.others.told_by(goal, self.parts[goal.session]):
+            if self.invent(number):
+                if self.is_done(goal) or self.go_on(goal) and self.is_done(goal):
+                    return True
+                if depth > 1 and self.invent_within(goal, depth - 1):
+                    return True
+                self.back_to(count)
+        return False
 
     def explore(self, goal: Deed, chosen: Callable[[list[Candidate]], list[Candidate]] = list) -> bool:
         """Whether some order from here does the goal, of the candidates that are chosen at each step. It is done
@@ -350,7 +433,7 @@ class Search:
                 waiting.pop()
                 self.back_to(max(floor, len(self.choices) - 1))
             elif self.choose(*candidate):
-                if self.is_done(goal):
+                if self.is_past(goal):
                     return True
                 if self.key() in self.dead:
                     self.back_to(len(self.choices) - 1)
@@ -360,9 +443,10 @@ class Search:
 
     def key(self) -> int:
         """A hash of where the search stands."""
-        return hash((tuple(self.heads), tuple(self.parts), self.state.digest()))
+        invented = 0 if self.others is None else self.others.count
+        return hash((tuple(self.heads), tuple(self.parts), invented, self.state.digest()))
 
 
-def places_in(deeds: list[Deed]) -> dict[Deed, int]:
+def places_in(choices: list[Choice]) -> dict[Deed, int]:
     """Where each request first stands."""
-    return {deed: at for at, deed in reversed(list(enumerate(deeds)))}
+    return {choice.deed: at for at, choice in reversed(list(enumerate(choices)))}

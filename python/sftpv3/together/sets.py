@@ -19,10 +19,10 @@ class Unfit(Exception):
 
 
 class Session:
-    """A session: its name, and its requests in the order asked."""
+    """A session: its name, its requests in the order asked, and the clock of its records."""
 
-    def __init__(self, name: str, deeds: list[Deed]):
-        self.name, self.deeds = name, deeds
+    def __init__(self, name: str, deeds: list[Deed], clock: Optional[Clock] = None):
+        self.name, self.deeds, self.clock = name, deeds, clock
         latest = NEVER
         for deed in reversed(deeds):
             latest = deed.deadline = min(latest, deed.answered)
@@ -45,7 +45,7 @@ def read_set(folder: str) -> tuple[list[Session], bool]:
         raise Unfit(f"{missing[0]}{TRANSCRIPT}: there is no {missing[0]}{TIMES} beside it")
     clocks = [clock_in(folder, name) for name in names]
     refuse_two_clocks(names, clocks)
-    sessions = [Session(name, deeds_in(folder, name, number, clock))
+    sessions = [Session(name, deeds_in(folder, name, number, clock), clock)
                 for number, (name, clock) in enumerate(zip(names, clocks))]
     return sessions, clocks[0].boot is not None
 

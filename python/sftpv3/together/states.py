@@ -63,6 +63,8 @@ class State:
         self.root = Node(DIRECTORY, -1, tree.root.owner())
         self.stale: set[Node] = {self.root}
         self.total = 0
+        # whether a request was tried that was done although there was no room, or did what nobody knows
+        self.is_beyond = False
         self.trace: Optional[Trace] = None
         self.fill(tree)
 
