@@ -34,7 +34,8 @@ begin()
 import argparse
 import pwd
 
-from sftpv3.nights.night import Night, Unsaid, WrongOption
+from sftpv3.nights.auditing import WrongOption
+from sftpv3.nights.night import Night, Unsaid
 from sftpv3.nights.records import Failed
 from sftpv3.system import ending, program
 from sftpv3.system.parsers import Parser, number_from
@@ -63,6 +64,8 @@ def options():
         help=f"the most memory of an audit ({program.MEMORY}); the tree file of the folders may have a third of it")
     add("--audit-seconds", metavar="N", type=number_from(1, MOST_TIME, float), default=AUDIT_SECONDS,
         help=f"the most time of an audit ({AUDIT_SECONDS})")
+    add("--steps", metavar="N", type=number_from(1, MOST_TIME), default=0,
+        help="the most steps of a search for an order of sessions that overlap, as of sftpv3-together")
     add("--look-seconds", metavar="N", type=number_from(1, MOST_TIME, float), default=LOOK_SECONDS,
         help=f"the most time in which the folders are read ({LOOK_SECONDS})")
     add("--night-seconds", metavar="N", type=number_from(0, MOST_TIME, float), default=NIGHT_SECONDS,

@@ -1,0 +1,188 @@
+"""Sessions that overlap: a night judges them together, by the times of a spool, or without times. What is wrong in one
+is refused, and named; what comes behind goes on from the tree of the set's end."""
+import os
+import signal
+import subprocess
+import time
+
+from night_trials.place import ENDS_WELL, OLD, USER, rewrite
+from record_trials.steps import INIT, TOP, receive
+from sftpv3 import codec
+from sftpv3.codec import request
+from trials.other_servers import SFTP_SERVER
+from trials.processes import wait_until
+
+# Flags of OPEN: read; write, create and truncate.
+READ, WRITE = 1, 0x1A
+# What precedes the fields of a reply, and how many bytes a handle of OpenSSH's server has.
+FRONT, HANDLE = 9, 4
+
+
+class Client:
+    """A session of raw requests, each answered before the next one is sent."""
+
+    def __init__(self, words):
+        self.process = subprocess.Popen(list(map(str, words)), stdin=subprocess.PIPE, stdout=subprocess.PIPE, bufsize=0)
+        self.number = 0
+        self.process.stdin.write(INIT)
+        self.reply()
+
+    def reply(self):
+        length = int.from_bytes(receive(self.process, 4), "big")
+        return receive(self.process, length)
+
+    def ask(self, name, *fields):
+        self.number += 1
+        self.process.stdin.write(request(self.number, name, *fields))
+        return self.reply()
+
+    def open(self, path, flags):
+        """The handle of a file."""
+        return self.ask("OPEN", os.fsencode(path), flags, {})[FRONT:]
+
+    def put(self, path, data):
+        handle = self.open(path, WRITE)
+        self.ask("WRITE", handle, 0, data)
+        self.ask("CLOSE", handle)
+
+    def get(self, path):
+        handle = self.open(path, READ)
+        data = self.ask("READ", handle, 0, 100)[FRONT:]
+        self.ask("CLOSE", handle)
+        return data
+
+    def end(self):
+        self.process.stdin.close()
+        self.process.wait()
+        self.process.stdout.close()
+
+
+class Spooled:
+    """A place whose sessions are recorded by the daemon, with times on the clock of the boot."""
+
+    def __init__(self, place):
+        self.place, self.socket = place, place.room / "socket"
+        place.records.chmod(0o700)
+        self.daemon = subprocess.Popen([TOP / "clients/recordd", "--socket", self.socket, place.records],
+                                       stderr=subprocess.DEVNULL)
+        wait_until(self.socket.exists)
+        self.words = [TOP / "clients/record", "--required", "--spool", self.socket, SFTP_SERVER, "-u", "022"]
+
+    def __enter__(self):
+        return self
+
+    def __exit__(self, *_):
+        self.daemon.send_signal(signal.SIGTERM)
+        self.daemon.wait()
+
+    def client(self):
+        return Client(self.words)
+
+    def records(self):
+        """The records in the order in which they were begun."""
+        found = (self.place.records / USER).glob("*.transcript")
+        return sorted(found, key=lambda it: (self.place.records / USER / f"{it.stem}.times").read_bytes()[24:40])
+
+
+def ended(*clients):
+    """Ends sessions, long enough before they are judged."""
+    for it in clients:
+        it.end()
+    time.sleep(OLD)
+
+
+def of_one_clock(steps, place):
+    """Two sessions that take turns within each other's time, and one behind them that needs what both made."""
+    with Spooled(place) as spool:
+        place.nightly()
+        one, other = spool.client(), spool.client()
+        one.put(place.live / "f", b"first")
+        assert other.get(place.live / "f") == b"first"
+        other.put(place.live / "f", b"other")
+        assert one.get(place.live / "f") == b"other"
+        one.ask("MKDIR", os.fsencode(place.live / "d"), {})
+        other.ask("MKDIR", os.fsencode(place.live / "d/e"), {})
+        ended(one, other)
+        behind = spool.client()
+        assert behind.get(place.live / "f") == b"other"
+        behind.ask("RMDIR", os.fsencode(place.live / "d/e"))
+        ended(behind)
+        first, second, third = (it.name for it in spool.records())
+        place.check(steps, "sessions that take turns are judged together, and the next one from their end", 0,
+                    f"{first}, {second}, judged together: accepted ", " requests in 2 sessions", f"{third}: accepted ",
+                    "3 sessions accepted; " + ENDS_WELL)
+        steps.check("records and their times are kept, and gone from the spool", sorted(it.suffix for it in place.kept(
+            "accepted")) == [".times"] * 3 + [".transcript"] * 3 and not list((place.records / USER).iterdir()),
+            place.kept("accepted"))
+
+
+def stale(spool, place):
+    """Two sessions that overlap, of which the second reads a file after the first one's write had its reply."""
+    one, other = spool.client(), spool.client()
+    one.put(place.live / "f", b"newer")
+    one.ask("MKDIR", os.fsencode(place.live / "new"), {})
+    other.get(place.live / "f")
+    other.ask("STAT", os.fsencode(place.live / "new"))
+    one.ask("RMDIR", os.fsencode(place.live / "new"))
+    ended(one, other)
+    return spool.records()[-2:]
+
+
+def answered_none(data, name):
+    """A transcript in which the first request of this name is answered with NO_SUCH_FILE."""
+    records = codec.records(data)
+    asked = next(it[5:9] for side, it in records if side == codec.CLIENT and it[4] == codec.REQUESTS[name][0])
+    none = bytes([0, 0, 0, 17, 101]) + asked + bytes([0, 0, 0, 2]) + bytes(8)
+    return codec.put_records([(side, none if side == codec.SERVER and it[5:9] == asked else it)
+                              for side, it in records])
+
+
+def wrong_in_a_set(steps, place):
+    """A server that gives stale bytes: by the times no order explains it; without times one does, and it is said."""
+    (place.live / "f").write_bytes(b"older")
+    with Spooled(place) as spool:
+        place.nightly()
+        one, other = stale(spool, place)
+        rewrite(other, lambda data: answered_none(data, "STAT"))
+        status, said = place.nightly()
+        steps.check("a stale reply in a set: it is refused, and names the two records", status == 1 and
+                    f"{one.name}, {other.name}, judged together: refused: {other.name} record " in said and
+                    f" is right before {one.name} record " in said and "us earlier" in said, said)
+        steps.check("both are kept with the verdict", [len([it for it in place.kept("refused") if it.suffix == end])
+                    for end in (".transcript", ".times", ".verdict")] == [2, 2, 2], place.kept("refused"))
+        (place.live / "f").write_bytes(b"older")
+        place.nightly()
+        one, other = stale(spool, place)
+        rewrite(other, lambda data: data.replace(b"newer", b"wrong"))
+        place.check(steps, "bytes that nobody wrote: they are refused in any order", 1, ", judged together: refused: "
+                    f"{other.name} record ", "is right in no order")
+        (place.live / "f").write_bytes(b"older")
+        place.nightly()
+        one, other = stale(spool, place)
+        place.check(steps, "a search that is not allowed a step says that it is undecided", 1,
+                    ", judged together: not judged: undecided: no order found in 1 steps", words=["--steps", "1"])
+        steps.check("and the records are unjudged", len(place.kept("unjudged")) == 4, place.kept("unjudged"))
+        place.nightly()
+        one, other = stale(spool, place)
+        rewrite(other, lambda data: data[:-3])
+        place.check(steps, "a record that is cut off: the sessions are judged one by one, and that one is refused", 1,
+                    f"{one.name}, {other.name} are not judged together: ", f"{one.name}: accepted ",
+                    f"{other.name}: sftpv3: transcript: record ", "Truncated (beside", f"(beside {one.name})")
+
+
+def one_after_another(steps, place):
+    """Sessions without times that came one after the other within a second did not overlap."""
+    words = [*place.words[:2], str(place.records / "%u-%t-%h-%p.transcript"), *place.words[3:]]
+    place.nightly()
+    for number in range(4):
+        one = Client(words)
+        one.put(place.live / "f", b"%d" % number)
+        one.end()
+        time.sleep(0.05)
+    time.sleep(OLD)
+    status, said = place.nightly()
+    steps.check("short sessions, one after the other: each is judged alone", status == 0 and "together" not in said and
+                "beside" not in said and "4 sessions accepted; " + ENDS_WELL in said, said)
+
+
+TRIALS = (of_one_clock, wrong_in_a_set, one_after_another)
