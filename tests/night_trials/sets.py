@@ -1,6 +1,7 @@
 """Sessions that overlap: a night judges them together, by the times of a spool, or without times. What is wrong in one
 is refused, and named; what comes behind goes on from the tree of the set's end."""
 import os
+import pwd
 import signal
 import subprocess
 import time
@@ -10,7 +11,7 @@ from record_trials.steps import INIT, TOP, receive
 from sftpv3 import codec
 from sftpv3.codec import request
 from trials.other_servers import SFTP_SERVER
-from trials.processes import wait_until
+from trials.processes import make_user, remove_user, wait_until
 
 # Flags of OPEN: read; write, create and truncate.
 READ, WRITE = 1, 0x1A
@@ -21,8 +22,9 @@ FRONT, HANDLE = 9, 4
 class Client:
     """A session of raw requests, each answered before the next one is sent."""
 
-    def __init__(self, words):
-        self.process = subprocess.Popen(list(map(str, words)), stdin=subprocess.PIPE, stdout=subprocess.PIPE, bufsize=0)
+    def __init__(self, words, **who):
+        self.process = subprocess.Popen(list(map(str, words)), stdin=subprocess.PIPE, stdout=subprocess.PIPE, bufsize=0,
+                                        **who)
         self.number = 0
         self.process.stdin.write(INIT)
         self.reply()
@@ -185,4 +187,74 @@ def one_after_another(steps, place):
                 "beside" not in said and "4 sessions accepted; " + ENDS_WELL in said, said)
 
 
-TRIALS = (of_one_clock, wrong_in_a_set, one_after_another)
+OTHERS = ("sftpv3-night-a", "sftpv3-night-b")
+
+
+class Group:
+    """Two accounts whose sessions change one folder, which is of a group."""
+
+    def __init__(self, place):
+        self.place = place
+        for name in OTHERS:
+            make_user(name)
+        for folder in (place.room, place.room.parent):
+            folder.chmod(0o755)
+        place.records.chmod(0o1733)
+        group = pwd.getpwnam(OTHERS[0]).pw_gid
+        os.chown(place.live, 0, group)
+        place.live.chmod(0o2775)
+        self.group = group
+
+    def __enter__(self):
+        return self
+
+    def __exit__(self, *_):
+        for name in OTHERS:
+            remove_user(name)
+
+    def client(self, name):
+        found = pwd.getpwnam(name)
+        stem = f"{self.place.records}/%u-%t-%h-%p"
+        words = [TOP / "clients/record", "--required", "--boot-clock", "--times", f"{stem}.times", f"{stem}.transcript",
+                 SFTP_SERVER, "-u", "022"]
+        return Client(words, user=found.pw_uid, group=found.pw_gid, extra_groups=[self.group], cwd=found.pw_dir)
+
+    def check(self, steps, name, status, *parts):
+        self.place.check(steps, name, status, *parts, words=["--also", OTHERS[1]], user=OTHERS[0])
+
+
+def of_several_accounts(steps, place):
+    """Two accounts take turns in one folder: each sees what the other one made, and whose it is."""
+    live = os.fsencode(place.live)
+    with Group(place) as group:
+        group.check(steps, "the first night of two accounts", 0, "the tree of the start has ")
+        for turn in range(4):
+            one, other = (OTHERS[turn % 2], OTHERS[1 - turn % 2])
+            client = group.client(one)
+            client.ask("REALPATH", b".")
+            client.ask("MKDIR", live + b"/d%d" % turn, {})
+            client.ask("STAT", live + b"/d%d" % turn)
+            client.ask("STAT", live + b"/d%d" % (turn - 1))
+            ended(client)
+        group.check(steps, "two accounts that take turns: each session is explained by those before it", 0,
+                    f"{OTHERS[0]}/{OTHERS[0]}-", f"{OTHERS[1]}/{OTHERS[1]}-", "4 sessions accepted; " + ENDS_WELL)
+        one, other = map(group.client, OTHERS)
+        for client in (one, other):
+            client.ask("REALPATH", b".")
+        other.ask("MKDIR", live + b"/of-other", {})
+        one.ask("STAT", live + b"/of-other")
+        one.ask("RMDIR", live + b"/of-other")
+        other.ask("STAT", live + b"/of-other")
+        ended(one, other)
+        group.check(steps, "two accounts at one time, of which one makes something: they are judged together", 0,
+                    "judged together: accepted 6 requests in 2 sessions", "2 sessions accepted; " + ENDS_WELL)
+        one, other = map(group.client, OTHERS)
+        one.ask("MKDIR", live + b"/of-one", {})
+        other.ask("MKDIR", live + b"/of-other", {})
+        ended(one, other)
+        group.check(steps, "two that both make something: it is said why they are not judged", 1,
+                    f"not judged: sessions of several accounts ({OTHERS[0]}, {OTHERS[1]}) that overlap")
+    place.check(steps, "--also names nobody: status 2", 2, "there is no user", words=["--also", "nobody-at-all"])
+
+
+TRIALS = (of_several_accounts, of_one_clock, wrong_in_a_set, one_after_another)

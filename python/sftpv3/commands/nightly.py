@@ -32,8 +32,8 @@ from sftpv3.system.standard import begin
 
 begin()
 import argparse
-import pwd
 
+from sftpv3.nights.accounts import account
 from sftpv3.nights.auditing import WrongOption
 from sftpv3.nights.night import Night, Unsaid
 from sftpv3.nights.records import Failed
@@ -76,19 +76,29 @@ def options():
     add("--without-mounts", action="store_true", help="as of sftpv3-tree")
     add("--home", metavar="PLACE", help="as of sftpv3-tree")
     add("--group", metavar="GROUP", help="as of sftpv3-tree")
+    add("--also", metavar="USER", action="append", default=[],
+        help="a further user whose sessions change the folders: all are in one order (repeatable)")
     add("user", metavar="USER", help="whose sessions they are")
     add("folders", metavar="FOLDER", nargs="+", help="the folders that this user's clients see")
     words = sys.argv[1:]
     place = words.index("--") if "--" in words else len(words)
     given = parser.parse_args(words[:place])
     given.audit = words[place + 1:]
-    try:
-        given.number = pwd.getpwnam(given.user).pw_uid
-    except KeyError:
-        parser.error(f"there is no user {ascii(given.user)[1:-1]}")
+    given.accounts = [account_of(parser, name, given) for name in (given.user, *given.also)]
+    if len({it.number for it in given.accounts}) < len(given.accounts):
+        parser.error("--also: a user is named twice")
     if "/" in given.user:
         parser.error("a user's name has no slash")
     return given
+
+
+def account_of(parser, name, given):
+    try:
+        return account(name, given.group, given.home, given.folders[0] if given.chroot else "")
+    except KeyError:
+        return parser.error(f"there is no user {ascii(name)[1:-1]}")
+    except ValueError as error:
+        return parser.error(str(error))
 
 
 def tell(text):

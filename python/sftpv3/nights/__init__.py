@@ -6,6 +6,7 @@ journal  what is decided of records is done as a whole, or finished by the next 
 spans    when sessions ran, and which may have run at the same time
 running  programs that run within bounds
 auditing the options of an audit, and what its lines say
+accounts several accounts whose sessions change the same folders
 sets     sessions that sftpv3-together judges together
 judging  what a night says of records, and what becomes of their copies
 night    one run: it audits what was recorded, and compares the folders with what that leaves

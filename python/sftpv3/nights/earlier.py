@@ -4,20 +4,20 @@ import os
 from contextlib import suppress
 from typing import List, Optional
 
-from sftpv3.nights.records import Spool, sync
+from sftpv3.nights.records import Spools, sync
 
 # The copy of a record until it was kept; the last tree of one that was being accepted, and the tree before one that was
 # being put aside; which record it was, where it was to be, and its verdict.
 NEW, NEXT, LAST, WHICH, VERDICT = "record.new", "tree.next", "tree.last", "record.which", "record.verdict"
 
 
-def finish(spool: Spool, tree: str) -> None:
+def finish(spool: Spools, tree: str) -> None:
     """Finishes it: a copy that has its name was kept, and one without it never was."""
     if os.path.exists(NEW):
         replace(LAST, tree)
     else:
         which = noted()
-        for record in spool.found() if which else ():
+        for record in spool.every() if which else ():
             if [record.name, record.identity[1]] == which[:2]:
                 record.remove()
         replace(NEXT, tree)

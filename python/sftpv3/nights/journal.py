@@ -8,7 +8,7 @@ from contextlib import suppress
 from typing import Dict, Iterable, List, Optional, Tuple
 
 from sftpv3.nights import earlier
-from sftpv3.nights.records import Record, Spool, sync
+from sftpv3.nights.records import Record, Spools, sync
 
 JOURNAL, BEGUN = "journal", "journal.new"
 # The tree that sessions start from, the one in which an accepted session ends, and how far sessions that run are
@@ -98,13 +98,13 @@ def move(source: str, target: str) -> Optional[str]:
     return os.path.dirname(target)
 
 
-def finish(spool: Spool) -> None:
+def finish(spool: Spools) -> None:
     """Finishes what a run began that was ended meanwhile."""
     noted = noted_last()
     if noted is None:
         earlier.finish(spool, TREE)
         return
-    finish_noted(noted, [it for it in spool.found() if named(it) in noted["records"]] if noted["records"] else [])
+    finish_noted(noted, [it for it in spool.every() if named(it) in noted["records"]] if noted["records"] else [])
 
 
 def noted_last() -> Optional[Dict]:

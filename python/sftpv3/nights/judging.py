@@ -3,7 +3,8 @@ import os
 import subprocess
 from contextlib import ExitStack, contextmanager
 
-from sftpv3.nights import journal, sets
+from sftpv3.codec import Malformed
+from sftpv3.nights import accounts, journal, sets
 from sftpv3.nights.auditing import named, said_of_unanswered
 from sftpv3.nights.journal import AFTER, NEXT, NONE, SAME, TREE, Decision
 from sftpv3.nights.records import NEW, Copy, Failed, end_of_silence, is_empty
@@ -88,6 +89,7 @@ class Judge:
         return bool(silence)
 
     def audit_requests(self, copy, name, note):
+        self.night.become(self.night.account(copy.record.user))
         file = f"/proc/self/fd/{copy.file}"
         found = self.run_audit([copy], file, name, note, pass_fds=[copy.file])
         if found is None:
@@ -144,6 +146,16 @@ class Judge:
         if sets.size_of(copies) > self.given.memory // sets.SHARE:
             self.judge_one_by_one(copies, f"they have more than {self.given.memory // sets.SHARE} bytes")
             return
+        try:
+            makers = accounts.makers(copies) if len({it.record.user for it in copies}) > 1 else set()
+        except Malformed as error:
+            self.judge_one_by_one(copies, str(error))
+            return
+        if len(makers) > 1:
+            self.give_up(copies, f"{name}: not judged: sessions of several accounts ({', '.join(sorted(makers))}) that "
+                         "overlap may each have made something, and a set has one owner of what is made")
+            return
+        self.night.become(self.night.account(next(iter(makers), records[0].user)))
         answer, note = self.best_answer(copies)
         if answer is None:
             self.give_up(copies, f"{name}: not judged: no order was found or refuted within "
@@ -177,7 +189,7 @@ class Judge:
 
     def answer(self, copies, by):
         """What sftpv3-together says, by its status and its last line; None if the time was over."""
-        sets.lay_out(copies, by)
+        sets.lay_out(copies, by, self.homes(copies))
         words = sets.words(TREE, self.night.options, self.given.steps)
         try:
             found = self.night.run_bounded(words, 1, env={**os.environ, "TMPDIR": os.path.abspath(NEW),
@@ -185,6 +197,11 @@ class Judge:
         except subprocess.TimeoutExpired:
             return None
         return sets.Answer(found.status, found.last.removeprefix("together: ").removeprefix("sftpv3-together: "))
+
+    def homes(self, copies):
+        """Where the relative paths of each session start, if the sessions are of several accounts, or nothing."""
+        users = [it.record.user for it in copies]
+        return [self.night.account(it).home for it in users] if len(set(users)) > 1 else []
 
     def judge_one_by_one(self, copies, why):
         """Judges sessions of a set that cannot be one in the order of their starts."""

@@ -8,14 +8,14 @@ import sys
 import time
 
 from sftpv3.codec import wording
-from sftpv3.nights import journal, sets
+from sftpv3.nights import accounts, journal, sets
 from sftpv3.nights.auditing import check_proved, options_of, try_options
 from sftpv3.nights.journal import JOURNAL, TREE
 from sftpv3.nights.judging import Judge, listed
-from sftpv3.nights.records import MOST, NEW, Failed, Gone, NotTaken, Numbers, Spool
+from sftpv3.nights.records import MOST, NEW, Failed, Gone, NotTaken, Numbers, Spools
 from sftpv3.nights.running import run
 from sftpv3.nights.spans import groups, span_of
-from sftpv3.system import children, program, ways
+from sftpv3.system import children, naming, program, ways
 
 TREE_COMMAND = program.command("tree")
 # How many lines are printed of a comparison or of what a folder has that no tree holds.
@@ -25,7 +25,7 @@ SHARE = 3
 # The least that an address space is bounded by: the program itself has to be loaded.
 LEAST_SPACE = 1 << 28
 # What ended runs and audits may have left in the folder of a user.
-LEFT = ("tree.after", "tree.now", "tree.owned", ".sftpv3-", "journal.new", "parts.new", sets.MERGED, sets.ORDER)
+LEFT = ("tree.after", "tree.now", accounts.OWNED, ".sftpv3-", "journal.new", "parts.new", sets.MERGED, sets.ORDER)
 LEFT_FOLDERS = (NEW, sets.FOLDER)
 # How many times it is looked again, if a session runs and ends meanwhile.
 LOOKS = 3
@@ -48,7 +48,7 @@ class Night:
             self.options += ["--memory", str(given.memory)]
         if given.audit:
             try_options(self.program, self.options)
-        self.spool = Spool(given.records, given.number)
+        self.spool = Spools(given.records, [it.number for it in given.accounts])
         self.folders = [os.fsdecode(ways.from_root(os.fsencode(it))) for it in given.folders]
         self.status = 0
         # when the night is over, and whether a record was looked at in it
@@ -103,6 +103,15 @@ class Night:
         """Prints lines that belong to the one before them."""
         for line in lines:
             self.say(f"  {line}")
+
+    def become(self, account):
+        """Makes the tree that of a session of this account, if there are several."""
+        if len(self.given.accounts) > 1:
+            accounts.become(TREE, account)
+
+    def account(self, user):
+        """The account that is called so in records."""
+        return next(it for it in self.given.accounts if naming.user_name(it.number) == user)
 
     def audit_all(self):
         """Audits what has ended, as far as there is a tree to start from. Returns whether something is left: a session
@@ -213,6 +222,7 @@ class Night:
                 self.say(line)
             self.say(f"the tree of the start has {found.last.rpartition(': ')[2].partition(',')[0]}")
         else:
+            self.become(self.given.accounts[0])
             self.tell_difference(now)
         os.replace(now, TREE)
         with open(self.compared, "w", encoding="utf-8"):
@@ -269,8 +279,9 @@ class Night:
     def run(self):
         if not self.reach_verdict():
             self.tell_not_compared()
-        for line in self.spool.strange.lines():
-            self.say(line, 1)
-        if self.spool.refused:
-            self.say(*self.spool.refused)
+        for spool in self.spool.each:
+            for line in spool.strange.lines():
+                self.say(line, 1)
+            if spool.refused:
+                self.say(*spool.refused)
         return self.status

@@ -7,6 +7,7 @@ import calendar
 import errno
 import fcntl
 import heapq
+import itertools
 import os
 import re
 import stat
@@ -87,15 +88,15 @@ class Record:
         self.is_dated = start is not None
         # when it ran, once that was looked for, and whether it still does
         self.span, self.runs = None, False
-        # whose sessions these are, where a run is for several users
-        self.user = None
+        # whose session it is, and whether that is said with its name, since there are several users
+        self.user, self.is_of_several = None, False
 
     def times_name(self):
         """The name of the file of times that a recorder makes beside it."""
         return times_name(self.name)
 
     def shown(self):
-        return shown(self.name)
+        return f"{self.user}/{shown(self.name)}" if self.is_of_several else shown(self.name)
 
     def order(self):
         """What comes first began first."""
@@ -212,6 +213,7 @@ class Spool:
     def __init__(self, path, number):
         self.path, self.user, self.number = path, naming.user_name(number), number
         self.shared, self.own, self.refused, self.strange = ways.folder_of(path), None, None, Strange()
+        self.is_of_several = False
 
     def look(self):
         """Opens the folder of the user's name, if it is that of the daemon: nobody but the spool's owner made it."""
@@ -253,8 +255,13 @@ class Spool:
             owner = None
         return is_writable(spool) and spool.st_mode & stat.S_ISVTX and owner not in (0, spool.st_uid)
 
+    def every(self):
+        """All records, in no order, also those in the user's folder."""
+        self.look()
+        return self.found()
+
     def found(self):
-        """All records, in no order. What others own in the shared folder is theirs, whatever its name: it hides no
+        """The same, as far as the last look goes. What others own in the shared folder is theirs, whatever its name: it hides no
         record, since a recorder then takes another name."""
         for name, state in found_in(self.shared):
             if state.st_uid == self.number:
@@ -271,13 +278,27 @@ class Spool:
         except NotTaken as why:
             self.strange.add(record.name, why)
         else:
+            record.user, record.is_of_several = self.user, self.is_of_several
             yield record
+
+
+class Spools:
+    """The spools of several users, whose sessions are in one order."""
+
+    def __init__(self, path, numbers):
+        self.each = [Spool(path, number) for number in numbers]
+        for it in self.each:
+            it.is_of_several = len(numbers) > 1
+
+    def every(self):
+        """All records, in no order."""
+        return itertools.chain.from_iterable(it.every() for it in self.each)
 
     def records(self):
         """The first records in the order of their starts."""
-        self.look()
-        self.strange = Strange()
-        return heapq.nsmallest(MOST, self.found(), key=Record.order)
+        for it in self.each:
+            it.strange = Strange()
+        return heapq.nsmallest(MOST, self.every(), key=Record.order)
 
 
 # The folder of the copies until they are kept.

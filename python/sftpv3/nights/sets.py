@@ -8,6 +8,7 @@ import struct
 import sys
 from typing import Dict, List, NamedTuple, Sequence
 
+from sftpv3.nights import accounts
 from sftpv3.nights.records import Copy, kept_name
 from sftpv3.nights.spans import ENTRY, HEAD, SECOND
 from sftpv3.spool.sinks import BOOT_OPENING, TIMES_OPENING, TRANSCRIPT
@@ -100,15 +101,19 @@ def are_of_one_clock(copies: Sequence[Copy]) -> bool:
     return len(boots) == 1 and boots != {b""}
 
 
-def lay_out(copies: Sequence[Copy], by: str) -> None:
+def lay_out(copies: Sequence[Copy], by: str, homes: Sequence[bytes]) -> None:
     """Makes the folder of a set: links to the transcripts and to the files of times; or, if these do not count, files
     that have one time for all records of a session, so that the sessions come one after the other, or that no session
-    has to be before another one."""
+    has to be before another one. If sessions have homes of their own, their paths start at the root there."""
     shutil.rmtree(FOLDER, ignore_errors=True)
     os.mkdir(FOLDER, 0o700)
     for number, copy in enumerate(copies):
         transcript, times = (os.path.join(FOLDER, os.path.basename(it)) for it in (copy.place, copy.times))
-        os.symlink(os.path.abspath(copy.place), transcript)
+        if homes:
+            with open(transcript, "wb") as file:
+                file.write(accounts.rooted(accounts.data_of(copy), homes[number]))
+        else:
+            os.symlink(os.path.abspath(copy.place), transcript)
         if by == OWN:
             os.symlink(os.path.abspath(copy.times), times)
             continue
