@@ -9,4 +9,5 @@ words    bad usage, folders that are not there, an output that is full
 blows    runs and recorders that are killed at each step
 spools   strange files, dates, names and places of records
 sets     sessions that overlap
+mounts   sessions that run on
 """

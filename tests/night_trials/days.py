@@ -6,7 +6,7 @@ import time
 from pathlib import Path
 
 from night_trials.place import ENDS_WELL, OLD, USER, changed, rewrite
-from record_trials.steps import INIT
+from record_trials.steps import INIT, receive
 from sftpv3.codec import request
 
 
@@ -107,6 +107,8 @@ def running(steps, place):
     place.check(steps, "when it has ended both are", 0, ", judged together: accepted ", "2 sessions accepted; " +
                 ENDS_WELL)
     process = place.start()
+    process.stdin.write(request(1, "OPENDIR", b"/"))
+    receive(process, 4)
     place.check(steps, "by --longest a session that runs alone is no fault for some hours", 0, "still running",
                 words=["--longest", "1"])
     compared = place.state / USER / "compared"

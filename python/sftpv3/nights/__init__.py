@@ -3,6 +3,7 @@
 records  the transcripts of users, and copies of them where only root can change them
 earlier  what a run of an earlier version left
 journal  what is decided of records is done as a whole, or finished by the next run
+parts    how far a session that runs can be judged for good
 spans    when sessions ran, and which may have run at the same time
 running  programs that run within bounds
 auditing the options of an audit, and what its lines say

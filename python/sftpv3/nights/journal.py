@@ -83,7 +83,10 @@ def finish_noted(noted: Dict, records: Iterable[Record]) -> None:
     elif noted["tree"] == NONE:
         with suppress(FileNotFoundError):
             os.remove(TREE)
-    if noted["parts"] is not None:
+    if noted["parts"] == {}:
+        with suppress(FileNotFoundError):
+            os.remove(PARTS)
+    elif noted["parts"]:
         write_whole(PARTS, json.dumps(noted["parts"]))
     sync(".")
     os.remove(JOURNAL)

@@ -7,6 +7,7 @@ from sftpv3.codec import Malformed
 from sftpv3.nights import accounts, journal, sets
 from sftpv3.nights.auditing import named, said_of_unanswered
 from sftpv3.nights.journal import AFTER, NEXT, NONE, SAME, TREE, Decision
+from sftpv3.nights.parts import Part, reach_of
 from sftpv3.nights.records import NEW, Copy, Failed, end_of_silence, is_empty
 from sftpv3.nights.spans import may_overlap
 from sftpv3.system import children, ending
@@ -53,7 +54,7 @@ class Judge:
     def copy_of(self, record, stem):
         record.open()
         try:
-            return Copy(record, self.night.numbers, stem)
+            return Copy(record, self.night.numbers, stem, record.part)
         except OSError as error:
             raise Failed(f"{record.shown()}: cannot be copied: {error.strerror}") from None
         finally:
@@ -68,7 +69,7 @@ class Judge:
         """Audits a session, if there is a tree to start from, and makes its last tree the one of the next. What comes
         of it is said before the record is taken from the spool, so nothing hides it."""
         name = copy.record.shown()
-        if not os.path.exists(TREE):
+        if not os.path.exists(TREE) or copy.record.is_lost():
             self.give_up([copy], f"{name}: not judged, since there is no tree that it started from")
         elif not self.is_silent(copy, note):
             self.audit_requests(copy, name, note)
@@ -123,6 +124,66 @@ class Judge:
         """What bounds the memory of what a night runs."""
         return children.lower_space(self.night.space()) or f"{self.given.memory} bytes of memory (--memory)"
 
+    # sessions that run
+
+    def judge_running(self, record):
+        """Judges what a session that runs has done so far, and for good what it had done when it was last quiet."""
+        with self.copied([record]) as (copy,):
+            if not os.path.exists(TREE) or record.is_lost():
+                self.lose(copy)
+                return
+            size = os.fstat(copy.file).st_size
+            found = reach_of(copy.file, record.part and Part(record.part.head, record.part.head, 2), size)
+            if found.head is None:
+                return
+            copy.cut(found.end, found.count)
+            if not self.is_right_so_far(copy):
+                return
+            if found.quiet > found.head:
+                copy.cut(found.quiet, found.quiet_count)
+                self.go_on_behind(copy, found)
+            elif record.part is None:
+                self.night.note_part(record, Part(found.head, found.head, 2))
+
+    def lose(self, copy):
+        """Holds on to it that there is no tree from which the session could be judged."""
+        self.say(f"{copy.record.shown()}: still running; it is not judged, since there is no tree that it started from",
+                 1)
+        if not copy.record.is_lost():
+            self.night.note_part(copy.record, (copy.record.part or Part(0, 0, 0))._replace(is_lost=True))
+
+    def is_right_so_far(self, copy):
+        """Whether all that a session has done is right, which is said."""
+        name, file = copy.record.shown(), f"/proc/self/fd/{copy.file}"
+        self.night.become(self.night.account(copy.record.user))
+        found = self.run_audit([], file, f"{name}: still running", "", pass_fds=[copy.file])
+        if found is None:
+            return False
+        first, *more = named(found.lines(), file, name) or [""]
+        if found.status == 0:
+            self.say(f"{name}: {first} so far; still running")
+            return True
+        if found.status != 1 and not first.startswith("sftpv3: transcript: "):
+            raise Failed(f"{name}: the audit ended with status {found.status}: {' '.join([first, *more]).strip()}")
+        self.say(f"{name}: {first}; still running", 1)
+        self.night.say_lines(more)
+        part = (copy.record.part or Part(0, 0, 0))._replace(is_lost=True)
+        self.keep([copy], "refused", NONE, [first, *more], self.night.parts_with(copy.record, part))
+        return False
+
+    def go_on_behind(self, copy, found):
+        """Keeps what was done up to a quiet moment, and goes on from its tree."""
+        name, file = copy.record.shown(), f"/proc/self/fd/{copy.file}"
+        done = self.run_audit([], file, name, "", pass_fds=[copy.file])
+        if done is None:
+            return
+        if done.status != 0:
+            raise Failed(f"{name}: of what was accepted, a part is not: {' '.join(done.lines())}")
+        before = copy.record.part or Part(found.head, found.head, 2)
+        part = Part(before.at + found.quiet - found.head, found.head, before.count + found.quiet_count - 2)
+        self.keep([copy], "accepted", NEXT, (), self.night.parts_with(copy.record, part))
+        copy.record.part = part
+
     # sets
 
     def judge_together(self, records):
@@ -133,8 +194,9 @@ class Judge:
                 self.judge(record, said_beside(record, records))
             return
         with self.copied(records) as copies:
-            asked = [it for it in copies if not self.is_silent(it)] if os.path.exists(TREE) else copies
-            if len(asked) < 2 or not os.path.exists(TREE):
+            has_tree = os.path.exists(TREE) and not any(it.is_lost() for it in records)
+            asked = [it for it in copies if not self.is_silent(it)] if has_tree else copies
+            if len(asked) < 2 or not has_tree:
                 for copy in asked:
                     self.audit(copy)
             else:
@@ -235,22 +297,25 @@ class Judge:
     def give_up(self, copies, text):
         """Says that copies cannot be judged, and puts them aside."""
         self.say(text, 1)
-        self.keep(copies, "unjudged", NONE)
+        if copies:
+            self.keep(copies, "unjudged", NONE)
 
-    def keep(self, copies, kind, tree, verdict=()):
+    def keep(self, copies, kind, tree, verdict=(), parts=None):
         """Keeps copies, with a verdict beside each, and has their records out of the spool, whatever signal comes
-        meanwhile. What comes behind those that are not accepted has no tree to start from."""
+        meanwhile; but those of sessions that run stay there, of which `parts` says how far they are judged. What comes
+        behind those that are not accepted has no tree to start from."""
         with ending.put_off():
-            decision = Decision(tree)
+            decision = Decision(tree, self.night.parts_without(copies) if parts is None else parts)
             is_noted = bool(verdict) and self.note_verdicts(copies, verdict)
             for copy in copies:
                 place = copy.place_in(kind)
                 decision.moves += copy.moves_to(place)
                 if is_noted:
                     decision.moves.append((copy.verdict(), f"{place}.verdict"))
-                decision.records.append(copy.record)
+                decision.records += [copy.record] * (parts is None)
             journal.carry_out(decision)
             self.night.numbers.settle()
+            self.night.parts = self.night.parts if decision.parts is None else decision.parts
 
     def note_verdicts(self, copies, verdict):
         """Has the verdict on the disk that is kept beside each copy. Returns whether that could be done."""

@@ -10,8 +10,9 @@ import time
 from sftpv3.codec import wording
 from sftpv3.nights import accounts, journal, sets
 from sftpv3.nights.auditing import check_proved, options_of, try_options
-from sftpv3.nights.journal import JOURNAL, TREE
+from sftpv3.nights.journal import AFTER, JOURNAL, NEXT, SAME, TREE, Decision
 from sftpv3.nights.judging import Judge, listed
+from sftpv3.nights.parts import Part, reach_of
 from sftpv3.nights.records import MOST, NEW, Failed, Gone, NotTaken, Numbers, Spools
 from sftpv3.nights.running import run
 from sftpv3.nights.spans import groups, span_of
@@ -31,6 +32,11 @@ LEFT_FOLDERS = (NEW, sets.FOLDER)
 LOOKS = 3
 # How many times records are looked for, of which each time nights.records.MOST are taken, before the rest has to wait.
 BATCHES = 10
+
+
+def key_of(record):
+    """What a record is called among those of all users."""
+    return f"{record.user}/{record.name}"
 
 
 class Unsaid(Exception):
@@ -67,6 +73,8 @@ class Night:
             raise Failed(f"another run for {given.user} has not ended") from None
         journal.finish(self.spool)
         self.tidy()
+        # how far sessions that run are judged, by their records
+        self.parts = journal.parts()
         self.judge = Judge(self)
 
     def tidy(self):
@@ -113,13 +121,54 @@ class Night:
         """The account that is called so in records."""
         return next(it for it in self.given.accounts if naming.user_name(it.number) == user)
 
+    # sessions that run
+
+    def part_of(self, record):
+        """Where what is not judged of a record begins, if a part of it is; else None."""
+        inode, *part = self.parts.get(key_of(record), [None])
+        return Part(*part) if inode == record.identity[1] else None
+
+    def parts_with(self, record, part):
+        return {**self.parts, key_of(record): [record.identity[1], *part]}
+
+    def parts_without(self, copies):
+        """How far sessions that run are judged, but for these, which have ended; None if that is as before."""
+        ended = {key_of(it.record) for it in copies}
+        return None if ended.isdisjoint(self.parts) else {it: at for it, at in self.parts.items() if it not in ended}
+
+    def note_part(self, record, part):
+        self.parts = self.parts_with(record, part)
+        journal.carry_out(Decision(SAME, self.parts))
+
+    def idle(self):
+        """Where each record ends that is in the spool, if all are of sessions that run and are quiet, and are judged to
+        their ends or cannot be; else None."""
+        found = {}
+        for record in self.spool.records():
+            try:
+                record.open()
+                size, part = os.fstat(record.file).st_size, self.part_of(record)
+                begun = part if part and part.head else None
+                reach = reach_of(record.file, begun, size)
+                is_judged = part is not None and (part.at == size or part.is_lost)
+                if not (is_judged and record.is_held() and reach.is_idle(size)):
+                    return None
+                found[key_of(record)] = [record.identity[1], *reach.part()]
+            except (Gone, NotTaken):
+                return None
+            finally:
+                record.close()
+        return found
+
+    # what has ended
+
     def audit_all(self):
-        """Audits what has ended, as far as there is a tree to start from. Returns whether something is left: a session
-        still runs, or there are too many."""
+        """Audits what has ended, and what runs alone, as far as there is a tree to start from. Returns whether
+        something is left: a session that waits for one that runs, or there are too many."""
         for _ in range(BATCHES):
             records = self.spool.records()
             if not records or self.audit_these(records):
-                return bool(records)
+                return self.idle() is None
         self.say("there are more records, which wait for the next run", 1)
         return True
 
@@ -135,6 +184,7 @@ class Night:
             try:
                 record.open()
                 record.runs, record.span = record.is_running(), span_of(record)
+                record.part = self.part_of(record)
                 if record.runs:
                     record.span = record.span.until_now()
                 found.append(record)
@@ -159,7 +209,7 @@ class Night:
                 return True
             self.is_begun = True
             if any(it.runs for it in group):
-                self.tell_waiting([it for one in found[place:] for it in one])
+                self.judge_running([it for one in found[place:] for it in one])
                 return True
             if not self.has_judged(group):
                 return False
@@ -177,17 +227,29 @@ class Night:
             return False
         return True
 
+    def judge_running(self, records):
+        """Judges a session that runs, and beside which there is no other one, as far as it went."""
+        self.has_running = True
+        if len(records) > 1:
+            self.tell_waiting(records)
+            return
+        try:
+            self.judge.judge_running(records[0])
+        except (Gone, NotTaken):
+            # the next run does not find it
+            pass
+
     def tell_waiting(self, records):
         """Names the sessions that still run, and those that wait for them since they have ended beside or behind
         them."""
         running, waiting = ([it for it in records if it.runs is which] for which in (True, False))
-        self.has_running = True
         behind = f"; {len(waiting)} beside or behind wait{'s' * (len(waiting) == 1)}: {listed(waiting)}" \
             if waiting else ""
         self.say(f"{listed(running)}: still running; what runs is judged when it has ended{behind}", bool(waiting))
 
-    def look(self):
-        """The tree of the folders as they are now, and what is said of them; None if a session ran meanwhile."""
+    def look(self, idle):
+        """The tree of the folders as they are now, and what is said of them; None if a session did anything meanwhile
+        but those that stay where they were."""
         now = f"{TREE}.now"
         words = [sys.executable, "-IS", TREE_COMMAND, "--out", now, "--most", str(self.given.memory // SHARE),
                  "--limits", "most", "--user", self.given.user]
@@ -200,8 +262,8 @@ class Night:
             self.tidy()
             raise Failed(f"the folders were not read within {self.given.look_seconds:g} seconds (--look-seconds)"
                          ) from None
-        if self.spool.records():
-            # it may have changed what was read
+        if self.idle() != idle:
+            # a session may have changed what was read
             self.unread = found.last if found.status else None
             return None
         if found.status:
@@ -213,8 +275,9 @@ class Night:
     def compare(self):
         """Compares the last tree with the folders, and starts anew from what they have. Returns whether that could be
         done: no session ran meanwhile."""
-        looked = self.look()
-        if looked is None:
+        idle = self.idle()
+        looked = self.look(idle)
+        if looked is None or idle is None:
             return False
         now, found = looked
         if not os.path.exists(TREE):
@@ -224,7 +287,9 @@ class Night:
         else:
             self.become(self.given.accounts[0])
             self.tell_difference(now)
-        os.replace(now, TREE)
+        os.replace(now, AFTER)
+        journal.carry_out(Decision(NEXT, None if idle == self.parts else idle))
+        self.parts = idle
         with open(self.compared, "w", encoding="utf-8"):
             os.utime(self.compared)
         return True

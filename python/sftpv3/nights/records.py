@@ -88,8 +88,14 @@ class Record:
         self.is_dated = start is not None
         # when it ran, once that was looked for, and whether it still does
         self.span, self.runs = None, False
+        # where what is not judged of it begins, if a part of it is; else None
+        self.part = None
         # whose session it is, and whether that is said with its name, since there are several users
         self.user, self.is_of_several = None, False
+
+    def is_lost(self):
+        """Whether there is no tree from which what is not judged of it could be."""
+        return self.part is not None and self.part.is_lost
 
     def times_name(self):
         """The name of the file of times that a recorder makes beside it."""
@@ -301,6 +307,8 @@ class Spools:
         return heapq.nsmallest(MOST, self.every(), key=Record.order)
 
 
+# The bytes of a file of times of a boot before its entries, and of an entry.
+TIMES_HEAD, TIME = 40, 8
 # The folder of the copies until they are kept.
 NEW = "records.new"
 # The longest name under which a record is kept. A verdict has eight characters more, a file of times may have them, and
@@ -330,7 +338,8 @@ def data_behind(file, at, size):
         return size, size
 
 
-def copy_range(source, target, start, end):
+def copy_range(source, target, start, end, moved=0):
+    """Copies bytes to their place, or so many bytes before it."""
     at = start
     while at < end:
         piece = os.pread(source, min(PIECE, end - at), at)
@@ -338,19 +347,20 @@ def copy_range(source, target, start, end):
             raise OSError(errno.EIO, "it became shorter while it was read")
         written = 0
         while written < len(piece):
-            written += os.pwrite(target, piece[written:], at + written)
+            written += os.pwrite(target, piece[written:], at + written - moved)
         at += len(piece)
 
 
-def copy(source, target, start=0, end=None):
-    """Copies the bytes of a file from one place to another into a new one. Holes stay holes, so it takes no more room
-    than it did."""
-    end = os.fstat(source).st_size if end is None else end
-    at = start
+def copy(source, target, left_out=(0, 0)):
+    """Copies the bytes of a file into a new one, but for those from one place to another. Holes stay holes, so it takes
+    no more room than it did."""
+    end = os.fstat(source).st_size
+    first, at = left_out
+    copy_range(source, target, 0, first)
     while at < end:
         begin, at = data_behind(source, at, end)
-        copy_range(source, target, begin, at)
-    os.truncate(target, end)
+        copy_range(source, target, begin, at, left_out[1] - first)
+    os.truncate(target, end - (left_out[1] - first))
 
 
 class Numbers:
@@ -403,13 +413,13 @@ class Copy:
     """The copy of a record, and of its file of times if it has one, in a folder that only root can enter: under names
     of their own until they are kept. `stem` is what their names have in common there."""
 
-    def __init__(self, record, numbers, stem="record"):
-        self.record, self.numbers = record, numbers
+    def __init__(self, record, numbers, stem="record", part=None):
+        self.record, self.numbers, self.part = record, numbers, part
         os.makedirs(NEW, mode=0o700, exist_ok=True)
         self.place, self.times = os.path.join(NEW, f"{stem}.transcript"), os.path.join(NEW, f"{stem}.times")
         self.file = os.open(self.place, MADE, 0o600)
         try:
-            copy(record.file, self.file)
+            copy(record.file, self.file, (part.head, part.at) if part else (0, 0))
             os.fsync(self.file)
             self.has_times = self.copy_times()
         except BaseException:
@@ -424,13 +434,24 @@ class Copy:
         try:
             target = os.open(self.times, MADE, 0o600)
             try:
-                copy(source, target)
+                copy(source, target, self.times_left_out())
                 os.fsync(target)
             finally:
                 os.close(target)
         finally:
             os.close(source)
         return True
+
+    def times_left_out(self):
+        """Where in a file of times of a boot the times are of records that were judged before."""
+        return (TIMES_HEAD + 2 * TIME, TIMES_HEAD + TIME * self.part.count) if self.part else (0, 0)
+
+    def cut(self, size, count):
+        """Leaves out what comes behind so many bytes, or behind so many records."""
+        os.ftruncate(self.file, size)
+        os.fsync(self.file)
+        if self.has_times and os.path.getsize(self.times) > TIMES_HEAD + TIME * count:
+            os.truncate(self.times, TIMES_HEAD + TIME * count)
 
     def place_in(self, kind):
         """A name that is free in a folder of the state, which is made."""
