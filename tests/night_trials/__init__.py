@@ -10,4 +10,5 @@ blows    runs and recorders that are killed at each step
 spools   strange files, dates, names and places of records
 sets     sessions that overlap
 mounts   sessions that run on
+causes   why a session is refused
 """

@@ -169,7 +169,8 @@ def wrong_in_a_set(steps, place):
         rewrite(other, lambda data: data[:-3])
         place.check(steps, "a record that is cut off: the sessions are judged one by one, and that one is refused", 1,
                     f"{one.name}, {other.name} are not judged together: ", f"{one.name}: accepted ",
-                    f"{other.name}: sftpv3: transcript: record ", "Truncated (beside", f"(beside {one.name})")
+                    f"{other.name}: sftpv3: transcript: record ", "Truncated (beside", f"(beside {one.name})",
+                    f"{other.name}: cause: ")
 
 
 def one_after_another(steps, place):

@@ -9,6 +9,7 @@ running  programs that run within bounds
 auditing the options of an audit, and what its lines say
 accounts several accounts whose sessions change the same folders
 sets     sessions that sftpv3-together judges together
+causes   why a session was refused
 judging  what a night says of records, and what becomes of their copies
 night    one run: it audits what was recorded, and compares the folders with what that leaves
 """

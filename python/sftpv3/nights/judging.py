@@ -2,9 +2,11 @@
 import os
 import subprocess
 from contextlib import ExitStack, contextmanager
+from typing import NamedTuple
 
-from sftpv3.codec import Malformed
-from sftpv3.nights import accounts, journal, sets
+from sftpv3.codec import CLIENT, Malformed
+from sftpv3.codec import records as records_in
+from sftpv3.nights import accounts, causes, journal, sets
 from sftpv3.nights.auditing import named, said_of_unanswered
 from sftpv3.nights.journal import AFTER, NEXT, NONE, SAME, TREE, Decision
 from sftpv3.nights.parts import Part, reach_of
@@ -31,6 +33,17 @@ def said_beside(record, others):
     return f" (beside {listed(beside)})" if beside else ""
 
 
+class Refusal(NamedTuple):
+    """What was refused: what it is called in lines, whose session it is, where its copy is kept, and the verdict; and
+    what is said of the sessions that may have run at the same time, if they were not judged with it."""
+
+    name: str
+    user: str
+    place: str
+    line: str
+    beside: str = ""
+
+
 class Judge:
     """Judges records from the tree of the night, one by one or as sets. `night` prints what it says, and runs the
     programs."""
@@ -38,6 +51,8 @@ class Judge:
     def __init__(self, night):
         self.night, self.given, self.say = night, night.given, night.say
         self.accepted = self.unanswered = 0
+        # what this night kept, and of which users; and what it refused
+        self.kept, self.refusals = [], []
 
     @contextmanager
     def copied(self, records):
@@ -103,7 +118,8 @@ class Judge:
         else:
             self.say(f"{name}: {first}{note}", 1)
             self.night.say_lines(more)
-            self.keep([copy], "refused", NONE, [first, *more])
+            (place,) = self.keep([copy], "refused", NONE, [first, *more])
+            self.refusals.append(Refusal(name, copy.record.user, place, first, note))
 
     def run_audit(self, copies, transcript, name, note, pass_fds=()):
         """The audit of a transcript from the tree, or None if it came to no verdict, which is said, and the copies are
@@ -168,7 +184,8 @@ class Judge:
         self.say(f"{name}: {first}; still running", 1)
         self.night.say_lines(more)
         part = (copy.record.part or Part(0, 0, 0))._replace(is_lost=True)
-        self.keep([copy], "refused", NONE, [first, *more], self.night.parts_with(copy.record, part))
+        (place,) = self.keep([copy], "refused", NONE, [first, *more], self.night.parts_with(copy.record, part))
+        self.refusals.append(Refusal(name, copy.record.user, place, first))
         return False
 
     def go_on_behind(self, copy, found):
@@ -226,7 +243,8 @@ class Judge:
             self.accept_set(copies, name, answer.line + note)
         elif answer.status == sets.REFUSED:
             self.say(f"{name}: {answer.line}{note}", 1)
-            self.keep(copies, "refused", NONE, [answer.line])
+            places = self.keep(copies, "refused", NONE, [answer.line])
+            self.note_refusal(name, copies, places, answer.line)
         elif answer.status == sets.UNDECIDED:
             self.give_up(copies, f"{name}: not judged: {answer.line}{note}")
         elif answer.status == sets.USAGE:
@@ -235,6 +253,12 @@ class Judge:
             self.give_up(copies, f"{name}: not judged: the search needs more than {self.bound()}")
         else:
             raise Failed(f"{name}: sftpv3-together ended with status {answer.status}: {answer.line}")
+
+    def note_refusal(self, name, copies, places, line):
+        """Notes which record of a set is refused."""
+        for copy, place in zip(copies, places):
+            if f"refused: {os.path.basename(copy.place)} record " in line:
+                self.refusals.append(Refusal(name, copy.record.user, place, line))
 
     def best_answer(self, copies):
         """What is said of a set, and a note on its times: by the times of its records if they have them. Otherwise the
@@ -283,6 +307,18 @@ class Judge:
             return
         self.accept(copies, f"{name}: {line}", line)
 
+    def sender_of_malformed(self, refusal):
+        """Who sent the packet for which a record is malformed, or None if it is no packet that is wrong."""
+        found = causes.WIRE.search(refusal.line)
+        if not found:
+            return None
+        with open(refusal.place, "rb") as file:
+            sides = [side for side, _ in records_in(file.read())]
+        number = int(found[1])
+        if " Wire " not in refusal.line or number > len(sides):
+            return None
+        return causes.CLIENT_S if sides[number - 1] == CLIENT else causes.SERVER_S
+
     # what becomes of copies
 
     def accept(self, copies, text, first):
@@ -303,12 +339,14 @@ class Judge:
     def keep(self, copies, kind, tree, verdict=(), parts=None):
         """Keeps copies, with a verdict beside each, and has their records out of the spool, whatever signal comes
         meanwhile; but those of sessions that run stay there, of which `parts` says how far they are judged. What comes
-        behind those that are not accepted has no tree to start from."""
+        behind those that are not accepted has no tree to start from. Returns where each copy is kept."""
+        places = []
         with ending.put_off():
             decision = Decision(tree, self.night.parts_without(copies) if parts is None else parts)
             is_noted = bool(verdict) and self.note_verdicts(copies, verdict)
             for copy in copies:
                 place = copy.place_in(kind)
+                places.append(place)
                 decision.moves += copy.moves_to(place)
                 if is_noted:
                     decision.moves.append((copy.verdict(), f"{place}.verdict"))
@@ -316,6 +354,8 @@ class Judge:
             journal.carry_out(decision)
             self.night.numbers.settle()
             self.night.parts = self.night.parts if decision.parts is None else decision.parts
+        self.kept += [(place, it.record.user) for place, it in zip(places, copies)]
+        return places
 
     def note_verdicts(self, copies, verdict):
         """Has the verdict on the disk that is kept beside each copy. Returns whether that could be done."""

@@ -8,7 +8,7 @@ import sys
 import time
 
 from sftpv3.codec import wording
-from sftpv3.nights import accounts, journal, sets
+from sftpv3.nights import accounts, causes, journal, sets
 from sftpv3.nights.auditing import check_proved, options_of, try_options
 from sftpv3.nights.journal import AFTER, JOURNAL, NEXT, SAME, TREE, Decision
 from sftpv3.nights.judging import Judge, listed
@@ -26,8 +26,11 @@ SHARE = 3
 # The least that an address space is bounded by: the program itself has to be loaded.
 LEAST_SPACE = 1 << 28
 # What ended runs and audits may have left in the folder of a user.
-LEFT = ("tree.after", "tree.now", accounts.OWNED, ".sftpv3-", "journal.new", "parts.new", sets.MERGED, sets.ORDER)
+LEFT = ("tree.after", "tree.now", accounts.OWNED, ".sftpv3-", "journal.new", "parts.new", sets.MERGED, sets.ORDER,
+        "alone.")
 LEFT_FOLDERS = (NEW, sets.FOLDER)
+# A refused request alone.
+ALONE = "alone.transcript"
 # How many times it is looked again, if a session runs and ends meanwhile.
 LOOKS = 3
 # How many times records are looked for, of which each time nights.records.MOST are taken, before the rest has to wait.
@@ -280,6 +283,7 @@ class Night:
         if looked is None or idle is None:
             return False
         now, found = looked
+        self.tell_causes(now)
         if not os.path.exists(TREE):
             for line in found.lines(found.count - 1):
                 self.say(line)
@@ -293,6 +297,65 @@ class Night:
         with open(self.compared, "w", encoding="utf-8"):
             os.utime(self.compared)
         return True
+
+    # why sessions were refused
+
+    def tell_causes(self, now):
+        """Says of each refusal why it was, as far as the tree of the folder as it is now tells, or None."""
+        refusals, self.judge.refusals = self.judge.refusals, []
+        places = self.places_now(now) if now and refusals else None
+        for it in refusals:
+            self.say(f"{it.name}: cause: {self.told_of(self.cause_of(it, places), it.beside)}")
+
+    def told_of(self, cause, beside):
+        """What is said of a cause. An overlap hides whether it is the server."""
+        if cause == causes.SERVER_S and beside:
+            return f"overlap{beside}, or the server: they were not judged together"
+        if cause is None:
+            return "not told, since the folder could not be read while a session runs"
+        return f"{cause}: {causes.MEANS[cause]}"
+
+    def cause_of(self, refusal, places):
+        record, kind = causes.place_of_refusal(refusal.line)
+        if kind != "NotAllowed":
+            return causes.of_protocol(kind) or self.judge.sender_of_malformed(refusal)
+        if places is None:
+            return None
+        account = self.account(refusal.user)
+        with open(refusal.place, "rb") as file:
+            return places.cause(file.read(), account.home, record)
+
+    def places_now(self, now):
+        """What is known of the folder for the causes of refusals."""
+        folders = [b"/"] if self.given.chroot else list(map(os.fsencode, self.folders))
+        return causes.Places(folders, causes.links_of(self.program, now), self.touched(),
+                             lambda asked: self.is_right_from(now, asked))
+
+    def touched(self):
+        """The places that sessions of this night may have changed; None if these are not known."""
+        if sum(os.path.getsize(place) for place, _ in self.judge.kept) > causes.MOST_BYTES:
+            return None
+        found = set()
+        for place, user in self.judge.kept:
+            with open(place, "rb") as file:
+                places = causes.touched(file.read(), self.account(user).home)
+            if places is None:
+                return None
+            found |= places
+        return found
+
+    def is_right_from(self, tree, asked):
+        """Whether an audit accepts these records from a tree."""
+        with open(ALONE, "wb") as file:
+            file.write(asked)
+        try:
+            return self.run_program(1, "audit", *self.options, "--tree", tree, "--transcript", ALONE).status == 0
+        except subprocess.TimeoutExpired:
+            return False
+        finally:
+            os.remove(ALONE)
+
+    # what is said at the end
 
     def tell_not_compared(self):
         """Says since when nothing was compared, and whether that is too long: users can have their sessions run on."""
@@ -343,6 +406,7 @@ class Night:
 
     def run(self):
         if not self.reach_verdict():
+            self.tell_causes(None)
             self.tell_not_compared()
         for spool in self.spool.each:
             for line in spool.strange.lines():
