@@ -1,10 +1,10 @@
-"""Why a night refuses: paths outside, changes by other programs, a full disk, and servers that lie, which are never taken
-for one of the others."""
+"""Why a night refuses: paths outside, changes by other programs, a full disk, and servers that lie, which are never
+taken for one of the others."""
 import os
 import random
 import subprocess
 
-from night_trials.place import rewrite
+from night_trials.place import USER, rewrite
 from night_trials.sets import WRITE, Client, ended
 from record_trials.steps import PROGRAM
 from sftpv3 import codec
@@ -14,8 +14,8 @@ from sftpv3.nights import causes
 LIES, SEED = 100, 7
 
 
-def of_each(steps, place):
-    """A session of each cause: the line that says it."""
+def outside(steps, place):
+    """Sessions that leave the folder."""
     live = os.fsencode(place.live)
     (place.room / "beside").write_text("x")
     (place.live / "out").symlink_to(place.room / "beside")
@@ -27,11 +27,15 @@ def of_each(steps, place):
         ask(client)
         ended(client)
         place.check(steps, f"{name}: the cause is outside", 1, "refused record ", ": cause: outside: the path leaves")
+
+
+def changed_locally(steps, place):
+    """Changes by another program, of which a session meets one."""
+    live, new, old = os.fsencode(place.live), place.live / "new", place.live / "old"
     for name, change, ask in (
-            ("a file was made", lambda: (place.live / "new").write_text("x"), lambda it: it.ask("STAT", live + b"/new")),
-            ("a file was changed", lambda: (place.live / "old").write_text("changed"), lambda it: it.get(
-                place.live / "old")),
-            ("a file was removed", lambda: (place.live / "gone").unlink(), lambda it: it.ask("STAT", live + b"/gone")),
+            ("a file was made", lambda: new.write_text("x"), lambda it: it.ask("STAT", live + b"/new")),
+            ("a file was changed", lambda: old.write_text("changed"), lambda it: it.get(old)),
+            ("a file was removed", (place.live / "gone").unlink, lambda it: it.ask("STAT", live + b"/gone")),
             ("a name was made", lambda: (place.live / "d/new").write_text("x"), lambda it: listed(it, live + b"/d"))):
         (place.live / "d").mkdir(exist_ok=True)
         for it in ("old", "gone"):
@@ -43,14 +47,19 @@ def of_each(steps, place):
         ended(client)
         place.check(steps, f"{name} by another program: the cause is a local change", 1, "refused record ",
                     ": cause: changed locally: the reply shows what the folder has now")
+
+
+def by_writes(steps, place):
+    """A server that stores other bytes, and one whose disk is full."""
+    live = os.fsencode(place.live)
     place.nightly()
     client = Client(place.words)
     client.put(place.live / "stored", b"wrong")
     assert client.get(place.live / "stored") == b"wrong"
     ended(client)
     rewrite(next(place.records.iterdir()), lambda data: data.replace(b"wrong", b"right", 1))
-    place.check(steps, "a server that stores other bytes than it was given: it is the server, also if the folder has them",
-                1, "refused record ", ": cause: the server: ")
+    place.check(steps, "a server that stores other bytes than it was given: it is the server, though the folder has "
+                "them", 1, "refused record ", ": cause: the server: ")
     place.nightly()
     client = Client(place.words)
     handle = client.open(place.live / "big", WRITE)
@@ -101,15 +110,8 @@ def audited(tree, transcript):
     return done.returncode, done.stdout.partition("\n")[0]
 
 
-def lies(steps, place):
-    """Lies in replies of all kinds: each that is refused is the server's, whatever the folder has."""
-    (place.live / "f").write_text("some bytes")
-    (place.live / "d").mkdir()
-    (place.live / "d/in").write_text("x")
-    (place.live / "link").symlink_to("f")
-    place.nightly()
-    tree = place.room / "start"
-    tree.write_bytes((place.state / os.environ.get("USER", "root") / "tree").read_bytes())
+def looked_at(place):
+    """The record of a session that looks at all that a folder has, and adds to it."""
     live, client = os.fsencode(place.live), Client(place.words)
     client.get(place.live / "f")
     listed(client, live + b"/d")
@@ -121,32 +123,50 @@ def lies(steps, place):
     client.put(place.live / "written", b"new bytes")
     client.get(place.live / "written")
     ended(client)
-    data = next(place.records.iterdir()).read_bytes()
-    now, alone = place.room / "now", place.room / "alone"
-    steps.check("the right session is accepted", audited(tree, next(place.records.iterdir()))[0] == 0)
-    place.nightly()
-    now.write_bytes((place.state / os.environ.get("USER", "root") / "tree").read_bytes())
+    return next(place.records.iterdir())
 
-    def is_right_now(asked):
-        alone.write_bytes(asked)
-        return audited(now, alone)[0] == 0
 
-    places = causes.Places([live], causes.links_of(str(PROGRAM), str(now)), causes.touched(data, b"/root"), is_right_now)
-    choose, records, found = random.Random(SEED), codec.records(data), []
-    while len(found) < LIES:
+def each_lie(tree, data, alone):
+    """Lies in a record that an audit refuses: the record, where the lie is, and which record is refused."""
+    choose, records, count = random.Random(SEED), codec.records(data), 0
+    while count < LIES:
         at = choose.randrange(2, len(records))
         side, packet = records[at]
         changed = lie(packet, choose) if side == codec.SERVER else None
         if changed is None:
             continue
-        lied = codec.put_records([*records[:at], (side, changed), *records[at + 1:]])
-        alone.write_bytes(lied)
+        alone.write_bytes(codec.put_records([*records[:at], (side, changed), *records[at + 1:]]))
         status, line = audited(tree, alone)
         record, kind = causes.place_of_refusal(line)
         if status == 1 and kind == "NotAllowed":
-            found.append((causes.Places.cause(places, lied, b"/root", record), at, line))
-    wrong = [it for it in found if it[0] != causes.SERVER_S]
-    steps.check(f"of {len(found)} lies that are refused, each is the server's", not wrong, wrong[:3])
+            count += 1
+            yield alone.read_bytes(), at, record
 
 
-TRIALS = (of_each, lies)
+def lies(steps, place):
+    """Lies in replies of all kinds: each that is refused is the server's, whatever the folder has."""
+    (place.live / "f").write_text("some bytes")
+    (place.live / "d").mkdir()
+    (place.live / "d/in").write_text("x")
+    (place.live / "link").symlink_to("f")
+    place.nightly()
+    tree, start, now, alone = place.state / USER / "tree", *(place.room / it for it in ("start", "now", "alone"))
+    start.write_bytes(tree.read_bytes())
+    record = looked_at(place)
+    data = record.read_bytes()
+    steps.check("the right session is accepted", audited(start, record)[0] == 0)
+    place.nightly()
+    now.write_bytes(tree.read_bytes())
+
+    def is_right_now(asked):
+        alone.write_bytes(asked)
+        return audited(now, alone)[0] == 0
+
+    links, touched = causes.links_of(str(PROGRAM), str(now)), causes.touched(data, b"/root")
+    places = causes.Places([os.fsencode(place.live)], links, touched, is_right_now)
+    wrong = [(at, refused) for lied, at, refused in each_lie(start, data, alone)
+             if places.cause(lied, b"/root", refused) != causes.SERVER_S]
+    steps.check(f"of {LIES} lies that are refused, each is the server's", not wrong, wrong[:3])
+
+
+TRIALS = (outside, changed_locally, by_writes, lies)

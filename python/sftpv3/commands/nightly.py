@@ -6,9 +6,10 @@ The first run makes the tree of the folders with sftpv3-tree. Each later run aud
 in the order of their starts, each from the tree in which the one before it ended, and then compares the last tree with
 the folders as they are. Each record goes into the folder accepted, refused (with the verdict beside it) or unjudged of
 the user's state. A session is unjudged if its audit takes more than --memory or --audit-seconds, or if there is no tree
-to start from: after such a session or a refused one, and before the first run. The tree is then made anew. While a
-session runs, neither it nor the sessions after it are audited, and nothing is compared; nor is anything once
---night-seconds are over. Sessions that ran at the same time are audited one after the other, and named (`beside`).
+to start from: after such a session or a refused one, and before the first run. The tree is then made anew. Sessions
+that may have run at the same time are judged together, by sftpv3-together. A session that runs alone is judged as far
+as it went; those that ended beside or behind it wait, and nothing is compared unless it is quiet. Nor is anything
+compared once --night-seconds are over. Behind a refusal, a line has its cause.
 
 A copy of each record that nobody else can change is audited and kept. A file is a record only if it is as a recorder
 makes it: a regular file of the user's, with one name, that nobody else may use. A folder with the user's name in
@@ -18,7 +19,7 @@ Options of `sftpv3 audit` follow `--`. They are added to `--profile posix-user` 
 `--cut` and `--new-owner posix`, as far as the program has these; a profile takes the place of all three.
 
 The exit status is
-  0  all sessions that have ended are accepted, and the folders are as they left them
+  0  all sessions that have ended are accepted, none waits, and the folders are as they left them
   1  one is refused, or it or a part of it cannot be judged, a file of the user is not taken for a record, something
      else changed the folders, or nothing could be compared
   2  bad usage

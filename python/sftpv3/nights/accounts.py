@@ -28,8 +28,8 @@ class Account(NamedTuple):
 
 
 def account(name: str, group: str, home: str, chroot: str) -> Account:
-    """The account of this name; KeyError if there is none, and ValueError if there is no such group. A group or a home that is given counts for each. Behind a
-    change of the root, its home is there only if the new root has it."""
+    """The account of this name; KeyError if there is none, and ValueError if there is no such group. A group or a home
+    that is given counts for each. Behind a change of the root, its home is there only if the new root has it."""
     found = pwd.getpwnam(name)
     place = os.path.normpath(home or found.pw_dir)
     if chroot and not home and not os.path.isdir(chroot + place):

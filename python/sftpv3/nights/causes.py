@@ -20,7 +20,7 @@ LINK = re.compile(r'[0-9]+ L "(.*)" "(.*)"')
 ESCAPED = re.compile(rb"\\x([0-9a-f]{2})")
 
 OUTSIDE, FULL, LOCALLY = "outside", "a full disk", "changed locally"
-SERVER_S, CLIENT_S = "the server", "the client"
+SERVER_S, CLIENT_S, RECORD = "the server", "the client", "the record"
 # What each cause means, in a line.
 MEANS = {
     OUTSIDE: "the path leaves the folders that the tree has",
@@ -28,6 +28,7 @@ MEANS = {
     LOCALLY: "the reply shows what the folder has now, and no session of this night touched that place",
     SERVER_S: "its reply is wrong, or something changed the folder and changed it back",
     CLIENT_S: "it broke the protocol",
+    RECORD: "it is cut or was changed, or has what no tree follows",
 }
 # The kinds of a refusal that are the client's.
 OF_CLIENT = ("IdInUse", "Window")

@@ -318,7 +318,7 @@ class Night:
     def cause_of(self, refusal, places):
         record, kind = causes.place_of_refusal(refusal.line)
         if kind != "NotAllowed":
-            return causes.of_protocol(kind) or self.judge.sender_of_malformed(refusal)
+            return causes.of_protocol(kind) or self.judge.sender_of_malformed(refusal) or causes.RECORD
         if places is None:
             return None
         account = self.account(refusal.user)

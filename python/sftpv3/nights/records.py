@@ -267,8 +267,8 @@ class Spool:
         return self.found()
 
     def found(self):
-        """The same, as far as the last look goes. What others own in the shared folder is theirs, whatever its name: it hides no
-        record, since a recorder then takes another name."""
+        """The same, as far as the last look goes. What others own in the shared folder is theirs, whatever its name: it
+        hides no record, since a recorder then takes another name."""
         for name, state in found_in(self.shared):
             if state.st_uid == self.number:
                 date = DATE.search(name)
