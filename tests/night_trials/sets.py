@@ -6,7 +6,7 @@ import signal
 import subprocess
 import time
 
-from night_trials.place import ENDS_WELL, OLD, USER, rewrite
+from night_trials.place import ENDS_WELL, OLD, USER, changed, rewrite
 from record_trials.steps import INIT, TOP, receive
 from sftpv3 import codec
 from sftpv3.codec import request
@@ -258,4 +258,25 @@ def of_several_accounts(steps, place):
     place.check(steps, "--also names nobody: status 2", 2, "there is no user", words=["--also", "nobody-at-all"])
 
 
-TRIALS = (of_several_accounts, of_one_clock, wrong_in_a_set, one_after_another)
+# The search fails in place of giving a verdict; the status is that of a refusal.
+FAILING = """
+from sftpv3.nights import sets
+sets.TOGETHER = {name!r}
+"""
+
+
+def failing_search(steps, place):
+    """A search that fails refuses nobody."""
+    name = place.room / "failing"
+    name.write_text("raise ValueError('planted')\n")
+    (place.live / "f").write_bytes(b"older")
+    with Spooled(place) as spool:
+        place.nightly()
+        stale(spool, place)
+        place.check(steps, "a search that fails: the sessions are not judged, and a line says why", 1,
+                    "not judged: sftpv3-together failed: ValueError: planted",
+                    script=changed(place, FAILING.format(name=str(name))))
+        steps.check("and they are unjudged", not place.kept("refused") and len(place.kept("unjudged")) == 4)
+
+
+TRIALS = (failing_search, of_several_accounts, of_one_clock, wrong_in_a_set, one_after_another)

@@ -33,7 +33,7 @@ MEANS = {
 # The kinds of a refusal that are the client's.
 OF_CLIENT = ("IdInUse", "Window")
 # The most links on the way of a path, and the most bytes of transcripts of a night that are read for this.
-MOST_LINKS, MOST_BYTES = 40, 1 << 28
+MOST_LINKS, MOST_BYTES = 40, 1 << 26
 CHANGING = WRITE | APPEND | CREAT | TRUNC
 # Requests that change the places that they name, besides an OPEN to write.
 CHANGERS = ("SETSTAT", "REMOVE", "MKDIR", "RMDIR", "RENAME", "POSIX-RENAME", "HARDLINK", "SYMLINK")

@@ -205,8 +205,10 @@ class Judge:
 
     def judge_together(self, records):
         """Judges sessions that may have run at the same time, of which there are at least two."""
-        if len(records) > sets.MOST:
-            self.say(f"{listed(records)} may have run at the same time: more than {sets.MOST} are not judged together")
+        most = self.given.memory // sets.SHARE
+        if len(records) > sets.MOST or sum(it.size for it in records) > most:
+            self.say(f"{listed(records)} are not judged together: they are more than {sets.MOST}, or have more than "
+                     f"{most} bytes")
             for record in records:
                 self.judge(record, said_beside(record, records))
             return
@@ -222,9 +224,6 @@ class Judge:
     def judge_set(self, copies):
         records = [it.record for it in copies]
         name = f"{listed(records)}, judged together"
-        if sets.size_of(copies) > self.given.memory // sets.SHARE:
-            self.judge_one_by_one(copies, f"they have more than {self.given.memory // sets.SHARE} bytes")
-            return
         try:
             makers = accounts.makers(copies) if len({it.record.user for it in copies}) > 1 else set()
         except Malformed as error:
@@ -252,7 +251,7 @@ class Judge:
         elif answer.line.endswith("out of memory"):
             self.give_up(copies, f"{name}: not judged: the search needs more than {self.bound()}")
         else:
-            raise Failed(f"{name}: sftpv3-together ended with status {answer.status}: {answer.line}")
+            self.give_up(copies, f"{name}: not judged: sftpv3-together failed: {answer.line}")
 
     def note_refusal(self, name, copies, places, line):
         """Notes which record of a set is refused."""
@@ -282,7 +281,7 @@ class Judge:
                                                           "SFTPV3": self.night.program})
         except subprocess.TimeoutExpired:
             return None
-        return sets.Answer(found.status, found.last.removeprefix("together: ").removeprefix("sftpv3-together: "))
+        return sets.answer_of(found.status, found.last)
 
     def homes(self, copies):
         """Where the relative paths of each session start, if the sessions are of several accounts, or nothing."""

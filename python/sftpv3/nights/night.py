@@ -127,9 +127,13 @@ class Night:
     # sessions that run
 
     def part_of(self, record):
-        """Where what is not judged of a record begins, if a part of it is; else None."""
+        """Where what is not judged of a record that is open begins, if a part of it is; else None. One that is shorter
+        than it was is as its user made it."""
         inode, *part = self.parts.get(key_of(record), [None])
-        return Part(*part) if inode == record.identity[1] else None
+        if inode != record.identity[1]:
+            return None
+        found = Part(*part)
+        return found if found.at <= os.fstat(record.file).st_size else Part(0, 0, 0, True)
 
     def parts_with(self, record, part):
         return {**self.parts, key_of(record): [record.identity[1], *part]}
@@ -151,10 +155,11 @@ class Night:
             try:
                 record.open()
                 size, part = os.fstat(record.file).st_size, self.part_of(record)
-                begun = part if part and part.head else None
-                reach = reach_of(record.file, begun, size)
                 is_judged = part is not None and (part.at == size or part.is_lost)
-                if not (is_judged and record.is_held() and reach.is_idle(size)):
+                if not (is_judged and record.is_held()):
+                    return None
+                reach = reach_of(record.file, part if part.head else None, size)
+                if not reach.is_idle(size):
                     return None
                 found[key_of(record)] = [record.identity[1], *reach.part()]
             except (Gone, NotTaken):
@@ -187,7 +192,7 @@ class Night:
             try:
                 record.open()
                 record.runs, record.span = record.is_running(), span_of(record)
-                record.part = self.part_of(record)
+                record.part, record.size = self.part_of(record), os.fstat(record.file).st_size
                 if record.runs:
                     record.span = record.span.until_now()
                 found.append(record)
@@ -312,7 +317,7 @@ class Night:
         if cause == causes.SERVER_S and beside:
             return f"overlap{beside}, or the server: they were not judged together"
         if cause is None:
-            return "not told, since the folder could not be read while a session runs"
+            return f"not told: a session runs, or its record has more than {causes.MOST_BYTES} bytes"
         return f"{cause}: {causes.MEANS[cause]}"
 
     def cause_of(self, refusal, places):
@@ -322,6 +327,8 @@ class Night:
         if places is None:
             return None
         account = self.account(refusal.user)
+        if os.path.getsize(refusal.place) > causes.MOST_BYTES:
+            return None
         with open(refusal.place, "rb") as file:
             return places.cause(file.read(), account.home, record)
 

@@ -86,8 +86,8 @@ class Record:
         self.start = min(self.told, now)
         self.file = None
         self.is_dated = start is not None
-        # when it ran, once that was looked for, and whether it still does
-        self.span, self.runs = None, False
+        # when it ran, once that was looked for, whether it still does, and how many bytes it has
+        self.span, self.runs, self.size = None, False, 0
         # where what is not judged of it begins, if a part of it is; else None
         self.part = None
         # whose session it is, and whether that is said with its name, since there are several users
@@ -432,6 +432,8 @@ class Copy:
         if source is None:
             return False
         try:
+            if os.fstat(source).st_size < self.times_left_out()[1]:
+                return False
             target = os.open(self.times, MADE, 0o600)
             try:
                 copy(source, target, self.times_left_out())
@@ -444,7 +446,8 @@ class Copy:
 
     def times_left_out(self):
         """Where in a file of times of a boot the times are of records that were judged before."""
-        return (TIMES_HEAD + 2 * TIME, TIMES_HEAD + TIME * self.part.count) if self.part else (0, 0)
+        return (TIMES_HEAD + 2 * TIME, TIMES_HEAD + TIME * self.part.count) if self.part and self.part.head \
+            else (0, 0)
 
     def cut(self, size, count):
         """Leaves out what comes behind so many bytes, or behind so many records."""

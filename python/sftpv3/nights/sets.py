@@ -38,6 +38,17 @@ class Answer(NamedTuple):
     line: str
 
 
+# How the line of each verdict begins.
+BEGINNINGS = {ACCEPTED: "accepted ", REFUSED: "refused: ", UNDECIDED: "undecided: ", USAGE: ""}
+
+
+def answer_of(status: int, line: str) -> Answer:
+    """What it says by its status and its last line, which have to be of one verdict: a script that fails has the status
+    of a refusal."""
+    line = line.removeprefix("sftpv3-").removeprefix("together: ")
+    return Answer(status if line.startswith(BEGINNINGS.get(status, "\0")) else FAILED, line)
+
+
 def shared(options: Sequence[str]) -> List[str]:
     """Those options of an audit that sftpv3-together has, too."""
     found: List[str] = []
@@ -120,7 +131,3 @@ def lay_out(copies: Sequence[Copy], by: str, homes: Sequence[bytes]) -> None:
         date = SECOND * (1 + number * (by == STARTS))
         with open(times, "wb") as file:
             file.write(TIMES_OPENING + struct.pack(">Q", date) + bytes(ENTRY.size * record_count(copy.file)))
-
-
-def size_of(copies: Sequence[Copy]) -> int:
-    return sum(os.fstat(it.file).st_size for it in copies)
