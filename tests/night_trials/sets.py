@@ -6,6 +6,7 @@ import signal
 import subprocess
 import time
 
+from night_trials.ends import struck
 from night_trials.place import ENDS_WELL, OLD, USER, changed, rewrite
 from record_trials.steps import INIT, TOP, receive
 from sftpv3 import codec
@@ -279,4 +280,20 @@ def failing_search(steps, place):
         steps.check("and they are unjudged", not place.kept("refused") and len(place.kept("unjudged")) == 4)
 
 
-TRIALS = (failing_search, of_several_accounts, of_one_clock, wrong_in_a_set, one_after_another)
+def struck_in_a_spool(steps, place):
+    """A run that is killed once it has decided on a set: the next one finishes it, and judges nothing twice."""
+    with Spooled(place) as spool:
+        place.nightly()
+        for before, count in ((False, 0), (True, 2)):
+            one, other = spool.client(), spool.client()
+            one.ask("MKDIR", os.fsencode(place.live / f"d{count}"), {})
+            other.ask("MKDIR", os.fsencode(place.live / f"d{count}/in"), {})
+            ended(one, other)
+            struck(place, signal.SIGKILL, "journal.commit", before)
+            place.check(steps, f"SIGKILL came {'before' if before else 'behind'} the journal of a set", 0,
+                        f"{count} sessions accepted; " + ENDS_WELL)
+        kept, left = place.kept("accepted"), list((place.records / USER).iterdir())
+        steps.check("each record is kept once, with its times, and gone from the spool", len(kept) == 8 and not left, kept)
+
+
+TRIALS = (struck_in_a_spool, failing_search, of_several_accounts, of_one_clock, wrong_in_a_set, one_after_another)
