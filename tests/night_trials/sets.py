@@ -293,7 +293,8 @@ def struck_in_a_spool(steps, place):
             place.check(steps, f"SIGKILL came {'before' if before else 'behind'} the journal of a set", 0,
                         f"{count} sessions accepted; " + ENDS_WELL)
         kept, left = place.kept("accepted"), list((place.records / USER).iterdir())
-        steps.check("each record is kept once, with its times, and gone from the spool", len(kept) == 8 and not left, kept)
+        steps.check("each record is kept once, with its times, and gone from the spool", len(kept) == 8 and not left,
+                    kept)
 
 
 TRIALS = (struck_in_a_spool, failing_search, of_several_accounts, of_one_clock, wrong_in_a_set, one_after_another)
