@@ -16,8 +16,8 @@ from trials.processes import make_user, remove_user, wait_until
 
 # Flags of OPEN: read; write, create and truncate.
 READ, WRITE = 1, 0x1A
-# What precedes the fields of a reply, and how many bytes a handle of OpenSSH's server has.
-FRONT, HANDLE = 9, 4
+# How many bytes precede what a reply gives: its type, its id, and a length.
+FRONT = 9
 
 
 class Client:

@@ -5,8 +5,7 @@ import pwd
 import shutil
 from typing import Iterable, List, NamedTuple, Sequence, Set, Tuple
 
-from sftpv3.codec import (CLIENT, CREAT, LAYOUTS, Malformed, Packet, encode, put_records, read, records, string,
-                          uint32)
+from sftpv3.codec import CLIENT, CREAT, LAYOUTS, Packet, encode, put_records, read, records, string, uint32
 from sftpv3.nights.records import sync
 
 # How a tree begins before its home, and the fields behind that: a user and a group.
@@ -103,6 +102,3 @@ def rooted_packet(packet: bytes, home: bytes) -> bytes:
     fields = [home.rstrip(b"/") + b"/" + value if kind in PATHS and not value.startswith(b"/") else value
               for kind, value in zip(LAYOUTS[request.name][1].split(), request.fields)]
     return packet if fields == list(request.fields) else encode(Packet(request.number, request.name, fields))
-
-
-__all__ = ["Account", "Malformed", "account", "become", "data_of", "makers", "rooted"]

@@ -10,7 +10,7 @@ from typing import Dict, Iterable, List, Optional, Tuple
 from sftpv3.nights import earlier
 from sftpv3.nights.records import Record, Spools, sync
 
-JOURNAL, BEGUN = "journal", "journal.new"
+JOURNAL = "journal"
 # The tree that sessions start from, the one in which an accepted session ends, and how far sessions that run are
 # judged.
 TREE, AFTER, PARTS = "tree", "tree.after", "parts"
