@@ -15,6 +15,7 @@ from sftpv3 import codec
 from sftpv3.codec import request
 from sftpv3.recorder.auditing import SCOPE, setting
 from sftpv3.spool import sinks
+from trials.copies import copy_scripts
 from trials.processes import SOON, ended, executable, make_user, remove_user, run, wait_until
 
 DAEMON = os.environ.get("RECORDD", str(TOP / "clients/recordd"))
@@ -387,10 +388,9 @@ def other_user(steps, room):
         number = pwd.getpwnam(OTHER).pw_uid
         spool = Spool(room)
         # a copy that the user can reach, as one that is installed
-        program = room.folder / "clients"
-        subprocess.run(["cp", "-rL", TOP / "clients", program], check=True)
+        program = copy_scripts(room.folder / "scripts")
         subprocess.run(["cp", STUB, program], check=True)
-        subprocess.run(["chmod", "-R", "a+rX", program], check=True)
+        subprocess.run(["chmod", "-R", "a+rX", program.parent], check=True)
         become = {"user": number, "group": pwd.getpwnam(OTHER).pw_gid, "extra_groups": []}
         process = subprocess.Popen([program / "record", "--required", "--spool", spool.socket,
                                     program / "stub.py"], stdin=subprocess.PIPE, stdout=subprocess.PIPE,
