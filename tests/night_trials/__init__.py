@@ -8,4 +8,7 @@ ends     signals, and no room, at each point of keeping a record
 words    bad usage, folders that are not there, an output that is full
 blows    runs and recorders that are killed at each step
 spools   strange files, dates, names and places of records
+sets     sessions that overlap
+mounts   sessions that run on
+causes   why a session is refused
 """

@@ -6,7 +6,7 @@ import time
 from pathlib import Path
 
 from night_trials.place import ENDS_WELL, OLD, USER, changed, rewrite
-from record_trials.steps import INIT
+from record_trials.steps import INIT, receive
 from sftpv3.codec import request
 
 
@@ -98,14 +98,23 @@ def running(steps, place):
     (place.live / "by-hand").mkdir()
     place.check(steps, "a session that runs is not audited, nor what comes behind it, and the status says so", 1,
                 "still running", "0 sessions accepted; a session runs, so the folder is not compared since 20")
-    place.check(steps, "by --longest that is no fault for some hours", 0, "still running", words=["--longest", "1"])
-    compared = place.state / USER / "compared"
-    os.utime(compared, (time.time() - 3700,) * 2)
-    place.check(steps, "and then it is one", 1, "still running", words=["--longest", "1"])
+    waiting = max(place.records.iterdir(), key=lambda it: it.stat().st_mtime)
+    place.check(steps, "what waits behind it is named and counted, and is a fault by --longest, too", 1,
+                f"; 1 beside or behind waits: {waiting.name}", words=["--longest", "1"])
     (place.live / "by-hand").rmdir()
     steps.check("their records stay", len(list(place.records.iterdir())) == 2)
     place.end(process, request(1, "STAT", b"/"))
-    place.check(steps, "when it has ended both are", 0, "(beside ", "2 sessions accepted; " + ENDS_WELL)
+    place.check(steps, "when it has ended both are", 0, ", judged together: accepted ", "2 sessions accepted; " +
+                ENDS_WELL)
+    process = place.start()
+    process.stdin.write(request(1, "OPENDIR", b"/"))
+    receive(process, 4)
+    place.check(steps, "by --longest a session that runs alone is no fault for some hours", 0, "still running",
+                words=["--longest", "1"])
+    compared = place.state / USER / "compared"
+    os.utime(compared, (time.time() - 3700,) * 2)
+    place.check(steps, "and then it is one", 1, "still running", words=["--longest", "1"])
+    place.end(process)
 
 
 # The folders cannot be read at first, since a session begins meanwhile and changes them; or for another reason.
@@ -113,7 +122,7 @@ UNREAD = """
 from sftpv3.nights import night
 run = night.run
 def unread(words, *others, **more):
-    if night.TREE not in words or os.path.exists({mark!r}):
+    if night.TREE_COMMAND not in words or os.path.exists({mark!r}):
         return run(words, *others, **more)
     open({mark!r}, "w").close()
     if {begins}:
@@ -144,8 +153,8 @@ def overlapping(steps, place):
     place.session("mkdir d")
     # the profile takes a refused MKDIR for a full disk, but no look at what is not there
     place.end(process, request(1, "STAT", str(place.live / "d").encode()))
-    place.check(steps, "one that sees what a later one made is refused, and it says that they overlap", 1,
-                "refused record ", "(beside ")
+    place.check(steps, "one that sees what a later one made: both are explained in an order", 0,
+                ", judged together: accepted ", "; their times are not recorded", "2 sessions accepted; " + ENDS_WELL)
 
 
 TRIALS = (before_the_first, of_another_mask, ordinary, changed_by_others, of_a_group, nothing_asked, running,

@@ -50,14 +50,14 @@ def signals(steps, place):
 STRUCK = """
 import os, runpy, sys
 {find}
-from sftpv3.nights import records
-step = records.{step}
+from sftpv3.nights import journal, records
+step = {step}
 def struck(*words):
     {before} and os.kill(os.getpid(), {number})
     found = step(*words)
     os.kill(os.getpid(), {number})
     return found
-records.{step} = struck
+{step} = struck
 sys.argv = sys.argv[1:]
 runpy.run_path(sys.argv[0], run_name="__main__")
 """
@@ -75,11 +75,11 @@ records.identity_of = of_another
 # is kept. Then the name of a folder, how many sessions the next run has to accept, and whether the machine is restarted
 # before it.
 BLOWS = [
-    (signal.SIGTERM, "Copy.keep", False, "a", 1, False),
-    (signal.SIGKILL, "Copy.keep", False, "b", 1, False),
-    (signal.SIGKILL, "Record.remove", True, "c", 1, False),
-    (signal.SIGKILL, "Copy.keep", True, "d", 2, False),
-    (signal.SIGKILL, "Record.remove", True, "e", 1, True),
+    (signal.SIGTERM, "journal.commit", False, "a", 1, False),
+    (signal.SIGKILL, "journal.commit", False, "b", 1, False),
+    (signal.SIGKILL, "records.Record.remove", True, "c", 1, False),
+    (signal.SIGKILL, "journal.commit", True, "d", 2, False),
+    (signal.SIGKILL, "records.Record.remove", True, "e", 1, True),
 ]
 
 
@@ -126,7 +126,7 @@ def removed_for_good(steps, place):
     notes = place.room / "notes"
     place.check(steps, "a run that is watched", 0, ENDS_WELL, script=changed(place, NOTED.format(notes=str(notes))))
     found = notes.read_text().splitlines()
-    wanted = [f"unlink {record.name}", f"fsync {place.records}", "replace tree.next"]
+    wanted = [f"unlink {record.name}", f"fsync {place.records}", "replace tree.after"]
     places = [found.index(it) if it in found else -1 for it in wanted]
     steps.check("it has the removal from the spool on the disk before the next tree", -1 not in places and
                 places == sorted(places), found)
@@ -169,7 +169,8 @@ def met_a_change(place, number):
 
 def refused_when_struck(steps, place):
     """A refused record is kept as one, whatever came between."""
-    for number, (step, before) in enumerate((("Copy.keep", True), ("Record.remove", True), ("Copy.keep", False))):
+    blows = ("journal.commit", True), ("records.Record.remove", True), ("journal.commit", False)
+    for number, (step, before) in enumerate(blows):
         place.nightly()
         met_a_change(place, number)
         struck(place, signal.SIGKILL, step, before)

@@ -14,6 +14,8 @@ from record_trials.steps import (INIT, RECORD, STUB, TOP, close, errors, leave, 
 from sftpv3 import codec
 from sftpv3.codec import request
 from sftpv3.recorder.auditing import SCOPE, setting
+from sftpv3.spool import sinks
+from trials.copies import copy_scripts
 from trials.processes import SOON, ended, executable, make_user, remove_user, run, wait_until
 
 DAEMON = os.environ.get("RECORDD", str(TOP / "clients/recordd"))
@@ -38,7 +40,10 @@ class Spool:
         return ended(self.daemon, SOON)
 
     def records(self):
-        return sorted(self.folder.glob("*/*"))
+        return sorted(self.folder.glob("*/*.transcript*"))
+
+    def times(self):
+        return sorted(self.folder.glob("*/*.times*"))
 
     def session(self, *words, options=(), **more):
         return self.room.start("--spool", self.socket, *options, STUB, *words, **more)
@@ -67,6 +72,44 @@ def kept(steps, room):
                 b"".join(asked) and b"".join(it for side, it in records if side == b"S")[9:] == got)
     steps.check("it is a transcript and no more", codec.put_records(records) == found[0].read_bytes())
     steps.check("the daemon ends with status 0", spool.end() == 0)
+
+
+def timed(steps, room):
+    """Beside a record of a spool is a file of times of the boot, which is right for what the recorder passed on."""
+    spool = Spool(room)
+    process = spool.session()
+    open_session(process)
+    begun = sinks.boot_clock()
+    process.stdin.write(request(1, "STAT", b"/"))
+    receive(process, 21)
+    ended_at = sinks.boot_clock()
+    time.sleep(0.2)
+    process.stdin.write(request(2, "STAT", b"/"))
+    receive(process, 21)
+    steps.check("a session into a spool ends", leave(process) == 0, errors(process))
+    (record,), (times,) = spool.records(), spool.times()
+    clock = sinks.clock_of(times.read_bytes())
+    moments = [clock.zero + it for it in clock.times]
+    steps.check("its times are beside it, for their user alone", times.stem == record.stem and
+                stat.S_IMODE(times.stat().st_mode) == 0o600, times)
+    steps.check("each record has one, on the clock of this boot", clock.boot == sinks.boot_id() and
+                len(moments) == len(codec.records(record.read_bytes())) == 6, moments)
+    steps.check("a request has its time before its reply has come, and the next one later", begun <= moments[2] <=
+                moments[3] <= ended_at < ended_at + 10**8 < moments[4], [begun, moments, ended_at])
+    opened, whole = b"SFTPSP01\0", b"\0\0\0\x08SFTPTR01"
+    batches = {"whole records": (b"C\0\0\0\5\1\0\0\0\3", 1), "no records": (b"what is no record", 0),
+               "a record that is cut": (b"C\0\0\0\5\1\0\0", 0), "empty packets": (b"C\0\0\0\0" * 9, 0)}
+    for name, (batch, count) in batches.items():
+        for it in (*spool.records(), *spool.times()):
+            it.unlink()
+        with socket.socket(socket.AF_UNIX) as link:
+            link.connect(str(spool.socket))
+            for data in (opened, whole, len(batch).to_bytes(4, "big") + batch):
+                link.sendall(data)
+                link.recv(8)
+        wait_until(lambda: spool.times() and spool.times()[0].stat().st_size >= 32)
+        steps.check(f"{name}: {count} times", len(sinks.clock_of(spool.times()[0].read_bytes()).times) == count)
+    steps.check("the daemon ends", spool.end() == 0)
 
 
 def both_ways(steps, room):
@@ -197,11 +240,12 @@ def limits(steps, room):
                 break
         steps.check(f"{name}: a session that is required ends with status 3", ended(process, SOON) == 3)
         spool.end()
-        sizes = [it.stat().st_size for it in spool.records()]
+        counted = spool.records() + (spool.times() if name == "--per-user" else [])
+        sizes = [it.stat().st_size for it in counted]
         steps.check(f"{name}: the record is not longer", sum(sizes) <= 100 << 10 and len(got) <= 100 << 10, str(sizes))
         steps.check(f"{name}: it is whole", all(codec.put_records(codec.records(it.read_bytes())) == it.read_bytes()
                                                 for it in spool.records()))
-        for it in spool.records():
+        for it in (*spool.records(), *spool.times()):
             it.unlink()
     spool = Spool(room, "--sessions", "2")
     for process in (spool.session(options=["--required"]) for _ in range(2)):
@@ -344,10 +388,9 @@ def other_user(steps, room):
         number = pwd.getpwnam(OTHER).pw_uid
         spool = Spool(room)
         # a copy that the user can reach, as one that is installed
-        program = room.folder / "clients"
-        subprocess.run(["cp", "-rL", TOP / "clients", program], check=True)
+        program = copy_scripts(room.folder / "scripts")
         subprocess.run(["cp", STUB, program], check=True)
-        subprocess.run(["chmod", "-R", "a+rX", program], check=True)
+        subprocess.run(["chmod", "-R", "a+rX", program.parent], check=True)
         become = {"user": number, "group": pwd.getpwnam(OTHER).pw_gid, "extra_groups": []}
         process = subprocess.Popen([program / "record", "--required", "--spool", spool.socket,
                                     program / "stub.py"], stdin=subprocess.PIPE, stdout=subprocess.PIPE,
@@ -382,5 +425,5 @@ def started_by_a_shell(steps, words, become):
                     ran.returncode == 0 and is_said == (is_open and name == "waits for"), str(ran))
 
 
-TRIALS = (kept, both_ways, without_proc, lost_spools, hanging_daemon, paused, begun_and_left, limits, hostile, unfit,
-          one_behind_another, activated, few_files, units, other_user)
+TRIALS = (kept, timed, both_ways, without_proc, lost_spools, hanging_daemon, paused, begun_and_left, limits, hostile,
+          unfit, one_behind_another, activated, few_files, units, other_user)

@@ -6,9 +6,10 @@ The first run makes the tree of the folders with sftpv3-tree. Each later run aud
 in the order of their starts, each from the tree in which the one before it ended, and then compares the last tree with
 the folders as they are. Each record goes into the folder accepted, refused (with the verdict beside it) or unjudged of
 the user's state. A session is unjudged if its audit takes more than --memory or --audit-seconds, or if there is no tree
-to start from: after such a session or a refused one, and before the first run. The tree is then made anew. While a
-session runs, neither it nor the sessions after it are audited, and nothing is compared; nor is anything once
---night-seconds are over. Sessions that ran at the same time are audited one after the other, and named (`beside`).
+to start from: after such a session or a refused one, and before the first run. The tree is then made anew. Sessions
+that may have run at the same time are judged together, by sftpv3-together. A session that runs alone is judged as far
+as it went; those that ended beside or behind it wait, and nothing is compared unless it is quiet. Nor is anything
+compared once --night-seconds are over. Behind a refusal, a line has its cause.
 
 A copy of each record that nobody else can change is audited and kept. A file is a record only if it is as a recorder
 makes it: a regular file of the user's, with one name, that nobody else may use. A folder with the user's name in
@@ -18,7 +19,7 @@ Options of `sftpv3 audit` follow `--`. They are added to `--profile posix-user` 
 `--cut` and `--new-owner posix`, as far as the program has these; a profile takes the place of all three.
 
 The exit status is
-  0  all sessions that have ended are accepted, and the folders are as they left them
+  0  all sessions that have ended are accepted, none waits, and the folders are as they left them
   1  one is refused, or it or a part of it cannot be judged, a file of the user is not taken for a record, something
      else changed the folders, or nothing could be compared
   2  bad usage
@@ -32,9 +33,10 @@ from sftpv3.system.standard import begin
 
 begin()
 import argparse
-import pwd
 
-from sftpv3.nights.night import Night, Unsaid, WrongOption
+from sftpv3.nights.accounts import account
+from sftpv3.nights.auditing import WrongOption
+from sftpv3.nights.night import Night, Unsaid
 from sftpv3.nights.records import Failed
 from sftpv3.system import ending, program
 from sftpv3.system.parsers import Parser, number_from
@@ -63,6 +65,8 @@ def options():
         help=f"the most memory of an audit ({program.MEMORY}); the tree file of the folders may have a third of it")
     add("--audit-seconds", metavar="N", type=number_from(1, MOST_TIME, float), default=AUDIT_SECONDS,
         help=f"the most time of an audit ({AUDIT_SECONDS})")
+    add("--steps", metavar="N", type=number_from(1, MOST_TIME), default=0,
+        help="the most steps of a search for an order of sessions that overlap, as of sftpv3-together")
     add("--look-seconds", metavar="N", type=number_from(1, MOST_TIME, float), default=LOOK_SECONDS,
         help=f"the most time in which the folders are read ({LOOK_SECONDS})")
     add("--night-seconds", metavar="N", type=number_from(0, MOST_TIME, float), default=NIGHT_SECONDS,
@@ -73,19 +77,29 @@ def options():
     add("--without-mounts", action="store_true", help="as of sftpv3-tree")
     add("--home", metavar="PLACE", help="as of sftpv3-tree")
     add("--group", metavar="GROUP", help="as of sftpv3-tree")
+    add("--also", metavar="USER", action="append", default=[],
+        help="a further user whose sessions change the folders: all are in one order (repeatable)")
     add("user", metavar="USER", help="whose sessions they are")
     add("folders", metavar="FOLDER", nargs="+", help="the folders that this user's clients see")
     words = sys.argv[1:]
     place = words.index("--") if "--" in words else len(words)
     given = parser.parse_args(words[:place])
     given.audit = words[place + 1:]
-    try:
-        given.number = pwd.getpwnam(given.user).pw_uid
-    except KeyError:
-        parser.error(f"there is no user {ascii(given.user)[1:-1]}")
+    given.accounts = [account_of(parser, name, given) for name in (given.user, *given.also)]
+    if len({it.number for it in given.accounts}) < len(given.accounts):
+        parser.error("--also: a user is named twice")
     if "/" in given.user:
         parser.error("a user's name has no slash")
     return given
+
+
+def account_of(parser, name, given):
+    try:
+        return account(name, given.group, given.home, given.folders[0] if given.chroot else "")
+    except KeyError:
+        return parser.error(f"there is no user {ascii(name)[1:-1]}")
+    except ValueError as error:
+        return parser.error(str(error))
 
 
 def tell(text):

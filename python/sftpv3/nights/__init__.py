@@ -1,3 +1,15 @@
-"""The parts of clients/nightly: `records` are the transcripts of a user, and copies of them where only root can
-change them; `accepting` keeps one and goes on to its last tree, both or none; `night` audits them one after the other,
-and says what came of it."""
+"""The parts of clients/nightly, each building on those before it:
+
+records  the transcripts of users, and copies of them where only root can change them
+earlier  what a run of an earlier version left
+journal  what is decided of records is done as a whole, or finished by the next run
+parts    how far a session that runs can be judged for good
+spans    when sessions ran, and which may have run at the same time
+running  programs that run within bounds
+auditing the options of an audit, and what its lines say
+accounts several accounts whose sessions change the same folders
+sets     sessions that sftpv3-together judges together
+causes   why a session was refused
+judging  what a night says of records, and what becomes of their copies
+night    one run: it audits what was recorded, and compares the folders with what that leaves
+"""

@@ -7,6 +7,7 @@ import calendar
 import errno
 import fcntl
 import heapq
+import itertools
 import os
 import re
 import stat
@@ -15,9 +16,9 @@ from contextlib import suppress
 
 from sftpv3.codec import wording
 from sftpv3.recorder.packets import OPENING
+from sftpv3.spool.sinks import times_name
 from sftpv3.system import mounted, naming, ways
 
-RECORD = re.compile(r".*\.transcript(\.[0-9a-f]+)?", re.DOTALL)
 # The names that recorders give: none of them reads like a part of a line.
 PLAIN = re.compile(r"[A-Za-z0-9_.:@+%=-]+")
 DATE = re.compile(r"[0-9]{8}T[0-9]{6}Z")
@@ -84,9 +85,24 @@ class Record:
         self.end = min(written, now)
         self.start = min(self.told, now)
         self.file = None
+        self.is_dated = start is not None
+        # when it ran, once that was looked for, whether it still does, and how many bytes it has
+        self.span, self.runs, self.size = None, False, 0
+        # where what is not judged of it begins, if a part of it is; else None
+        self.part = None
+        # whose session it is, and whether that is said with its name, since there are several users
+        self.user, self.is_of_several = None, False
+
+    def is_lost(self):
+        """Whether there is no tree from which what is not judged of it could be."""
+        return self.part is not None and self.part.is_lost
+
+    def times_name(self):
+        """The name of the file of times that a recorder makes beside it."""
+        return times_name(self.name)
 
     def shown(self):
-        return shown(self.name)
+        return f"{self.user}/{shown(self.name)}" if self.is_of_several else shown(self.name)
 
     def order(self):
         """What comes first began first."""
@@ -106,15 +122,33 @@ class Record:
             raise Failed(f"{self.shown()}: it was replaced meanwhile")
         check_form(found)
 
+    def open_times(self):
+        """Opens its file of times; None if there is none that a recorder made for it."""
+        try:
+            file = mounted.open_at(self.times_name(), self.folder, os.O_RDONLY | os.O_NONBLOCK)
+        except OSError:
+            return None
+        found = os.fstat(file)
+        try:
+            check_form(found)
+            if found.st_uid == self.owner:
+                return file
+        except NotTaken:
+            pass
+        os.close(file)
+        return None
+
     def is_young(self):
         return 0 <= time.time() - os.fstat(self.file).st_mtime < YOUNG
 
     def is_running(self):
         """Whether a recorder holds it, or may be about to. One that is young is looked at again."""
-        if self.is_young():
+        if not self.is_held() and self.is_young():
             time.sleep(YOUNG)
-        if self.is_young():
-            return True
+        return self.is_held() or self.is_young()
+
+    def is_held(self):
+        """Whether a recorder holds it."""
         try:
             # NFS gives the other kind of lock only to who can write
             fcntl.flock(self.file, fcntl.LOCK_SH | fcntl.LOCK_NB)
@@ -125,22 +159,24 @@ class Record:
         return False
 
     def remove(self):
-        """Removes it from its folder, unless something else has its name by now; a power failure does not bring it
-        back."""
+        """Removes it and its file of times from its folder, unless something else has its name by now; a power failure
+        does not bring it back."""
         with suppress(FileNotFoundError, mounted.OfAnother):
             found = mounted.state_at(self.name, self.folder)
             if identity_of(found) == self.identity:
+                self.remove_times()
                 os.unlink(self.name, dir_fd=self.folder)
                 os.fsync(self.folder)
+
+    def remove_times(self):
+        with suppress(FileNotFoundError, mounted.OfAnother, IsADirectoryError):
+            if mounted.state_at(self.times_name(), self.folder).st_uid == self.owner:
+                os.unlink(self.times_name(), dir_fd=self.folder)
 
     def close(self):
         if self.file is not None:
             os.close(self.file)
             self.file = None
-
-    def is_beside(self, other):
-        """Whether both certainly ran at the same time: a name has the whole seconds of a start."""
-        return other is not self and self.start + 1 <= other.end and other.start + 1 <= self.end
 
 
 def found_in(folder):
@@ -150,7 +186,7 @@ def found_in(folder):
     with os.scandir(folder) as entries:
         for entry in entries:
             with suppress(FileNotFoundError, PermissionError):
-                if RECORD.fullmatch(entry.name):
+                if times_name(entry.name):
                     yield entry.name, mounted.state_at(entry.name, folder, beside)
 
 
@@ -183,6 +219,7 @@ class Spool:
     def __init__(self, path, number):
         self.path, self.user, self.number = path, naming.user_name(number), number
         self.shared, self.own, self.refused, self.strange = ways.folder_of(path), None, None, Strange()
+        self.is_of_several = False
 
     def look(self):
         """Opens the folder of the user's name, if it is that of the daemon: nobody but the spool's owner made it."""
@@ -224,9 +261,14 @@ class Spool:
             owner = None
         return is_writable(spool) and spool.st_mode & stat.S_ISVTX and owner not in (0, spool.st_uid)
 
+    def every(self):
+        """All records, in no order, also those in the user's folder."""
+        self.look()
+        return self.found()
+
     def found(self):
-        """All records, in no order. What others own in the shared folder is theirs, whatever its name: it hides no
-        record, since a recorder then takes another name."""
+        """The same, as far as the last look goes. What others own in the shared folder is theirs, whatever its name: it
+        hides no record, since a recorder then takes another name."""
         for name, state in found_in(self.shared):
             if state.st_uid == self.number:
                 date = DATE.search(name)
@@ -242,18 +284,35 @@ class Spool:
         except NotTaken as why:
             self.strange.add(record.name, why)
         else:
+            record.user, record.is_of_several = self.user, self.is_of_several
             yield record
+
+
+class Spools:
+    """The spools of several users, whose sessions are in one order."""
+
+    def __init__(self, path, numbers):
+        self.each = [Spool(path, number) for number in numbers]
+        for it in self.each:
+            it.is_of_several = len(numbers) > 1
+
+    def every(self):
+        """All records, in no order."""
+        return itertools.chain.from_iterable(it.every() for it in self.each)
 
     def records(self):
         """The first records in the order of their starts."""
-        self.look()
-        self.strange = Strange()
-        return heapq.nsmallest(MOST, self.found(), key=Record.order)
+        for it in self.each:
+            it.strange = Strange()
+        return heapq.nsmallest(MOST, self.every(), key=Record.order)
 
 
-# The name of a copy until it is kept.
-NEW = "record.new"
-# The longest name under which a record is kept. A verdict has eight characters more, and a number may come behind both.
+# The bytes of a file of times of a boot before its entries, and of an entry.
+TIMES_HEAD, TIME = 40, 8
+# The folder of the copies until they are kept.
+NEW = "records.new"
+# The longest name under which a record is kept. A verdict has eight characters more, a file of times may have them, and
+# a number may come behind all.
 LONGEST_NAME = 200
 # How many bytes precede a packet's fields: its side, its length and its type; and the type of INIT.
 FRONT, INIT = 6, b"\x01"
@@ -279,7 +338,8 @@ def data_behind(file, at, size):
         return size, size
 
 
-def copy_range(source, target, start, end):
+def copy_range(source, target, start, end, moved=0):
+    """Copies bytes to their place, or so many bytes before it."""
     at = start
     while at < end:
         piece = os.pread(source, min(PIECE, end - at), at)
@@ -287,18 +347,20 @@ def copy_range(source, target, start, end):
             raise OSError(errno.EIO, "it became shorter while it was read")
         written = 0
         while written < len(piece):
-            written += os.pwrite(target, piece[written:], at + written)
+            written += os.pwrite(target, piece[written:], at + written - moved)
         at += len(piece)
 
 
-def copy(source, target):
-    """Copies all bytes of a file into a new one. Holes stay holes, so it takes no more room than it did."""
-    size = os.fstat(source).st_size
-    at = 0
-    while at < size:
-        start, at = data_behind(source, at, size)
-        copy_range(source, target, start, at)
-    os.truncate(target, size)
+def copy(source, target, left_out=(0, 0)):
+    """Copies the bytes of a file into a new one, but for those from one place to another. Holes stay holes, so it takes
+    no more room than it did."""
+    end = os.fstat(source).st_size
+    first, at = left_out
+    copy_range(source, target, 0, first)
+    while at < end:
+        begin, at = data_behind(source, at, end)
+        copy_range(source, target, begin, at, left_out[1] - first)
+    os.truncate(target, end - (left_out[1] - first))
 
 
 class Numbers:
@@ -306,15 +368,20 @@ class Numbers:
     others."""
 
     def __init__(self):
-        self.last = {}
+        self.last, self.promised = {}, set()
+
+    def settle(self):
+        """The names that were given are taken by now."""
+        self.promised.clear()
 
     def free(self, place):
-        """The name, or the first one with a number behind it that is not taken."""
+        """The name, or the first one with a number behind it that is not taken, nor given to another one."""
         number = self.last.get(place, 1)
         found = place if number == 1 else f"{place}.{number}"
-        while os.path.lexists(found):
+        while found in self.promised or os.path.lexists(found):
             number += 1
             found = f"{place}.{number}"
+        self.promised.add(found)
         if len(self.last) >= MOST_NUMBERS:
             self.last.clear()
         if number > 1:
@@ -343,36 +410,70 @@ def end_of_silence(file):
 
 
 class Copy:
-    """The copy of a record, in a folder that only root can enter: under a name of its own until it is kept."""
+    """The copy of a record, and of its file of times if it has one, in a folder that only root can enter: under names
+    of their own until they are kept. `stem` is what their names have in common there."""
 
-    def __init__(self, folder, record, numbers):
-        self.folder, self.record, self.place = folder, record, os.path.join(folder, NEW)
-        self.numbers = numbers
+    def __init__(self, record, numbers, stem="record", part=None):
+        self.record, self.numbers, self.part = record, numbers, part
+        os.makedirs(NEW, mode=0o700, exist_ok=True)
+        self.place, self.times = os.path.join(NEW, f"{stem}.transcript"), os.path.join(NEW, f"{stem}.times")
         self.file = os.open(self.place, MADE, 0o600)
         try:
-            copy(record.file, self.file)
+            copy(record.file, self.file, (part.head, part.at) if part else (0, 0))
             os.fsync(self.file)
+            self.has_times = self.copy_times()
         except BaseException:
             self.close()
             raise
 
+    def copy_times(self):
+        """Copies the file of times. Returns whether there is one."""
+        source = self.record.open_times()
+        if source is None:
+            return False
+        try:
+            if os.fstat(source).st_size < self.times_left_out()[1]:
+                return False
+            target = os.open(self.times, MADE, 0o600)
+            try:
+                copy(source, target, self.times_left_out())
+                os.fsync(target)
+            finally:
+                os.close(target)
+        finally:
+            os.close(source)
+        return True
+
+    def times_left_out(self):
+        """Where in a file of times of a boot the times are of records that were judged before."""
+        return (TIMES_HEAD + 2 * TIME, TIMES_HEAD + TIME * self.part.count) if self.part and self.part.head \
+            else (0, 0)
+
+    def cut(self, size, count):
+        """Leaves out what comes behind so many bytes, or behind so many records."""
+        os.ftruncate(self.file, size)
+        os.fsync(self.file)
+        if self.has_times and os.path.getsize(self.times) > TIMES_HEAD + TIME * count:
+            os.truncate(self.times, TIMES_HEAD + TIME * count)
+
     def place_in(self, kind):
         """A name that is free in a folder of the state, which is made."""
-        folder = os.path.join(self.folder, kind)
-        os.makedirs(folder, mode=0o700, exist_ok=True)
-        return self.numbers.free(os.path.join(folder, kept_name(self.record.name)))
+        os.makedirs(kind, mode=0o700, exist_ok=True)
+        return self.numbers.free(os.path.join(kind, kept_name(self.record.name)))
 
-    def keep(self, place):
-        """Gives it this name, and removes the record."""
-        os.rename(self.place, place)
-        sync(os.path.dirname(place))
-        self.record.remove()
+    def verdict(self):
+        """Where its verdict is until it is kept."""
+        return f"{self.place}.verdict"
+
+    def moves_to(self, place):
+        """Which files get which names, if the copy is kept there."""
+        folder, name = os.path.split(place)
+        times = os.path.join(folder, times_name(name) or f"{name}.times")
+        return [(self.times, times)] * self.has_times + [(self.place, place)]
 
     def close(self):
-        """Closes it, and removes it unless it is kept."""
+        """Closes it. What is not kept is removed with the folder."""
         os.close(self.file)
-        with suppress(FileNotFoundError):
-            os.remove(self.place)
 
 
 def sync(folder):

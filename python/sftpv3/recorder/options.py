@@ -290,7 +290,7 @@ def record(words=None):
 
 
 def raise_limit_of_files():
-    """Each session of the daemon needs two descriptors, and the usual limit is 1,024."""
+    """Each session of the daemon needs three descriptors, and the usual limit is 1,024."""
     import resource
     soft, hard = resource.getrlimit(resource.RLIMIT_NOFILE)
     wanted = FILES if hard == resource.RLIM_INFINITY else min(FILES, hard)

@@ -19,9 +19,9 @@ after wrong usage, 3 if a record that is required cannot be made or memory runs 
 
 DAEMON_NOTES = """\
 Started by systemd, it takes the socket that systemd opened; otherwise it makes SOCKET. The records of a user are in a
-folder of that user's name, as TIME-ADDRESS-PROCESS.transcript: the user and the process are those that connected, as
-the system knows them; the address is what the recorder says. SIZE is a number of bytes, or one that ends in K, M, G or
-T."""
+folder of that user's name, as TIME-ADDRESS-PROCESS.transcript, with a file of times beside each: the user and the
+process are those that connected, as the system knows them; the address is what the recorder says. SIZE is a number of
+bytes, or one that ends in K, M, G or T."""
 
 
 def record_parser():

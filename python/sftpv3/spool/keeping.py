@@ -5,6 +5,10 @@ makes the record and replies with eight bytes 0. Then the recorder sends batches
 records, and the daemon replies with the number of bytes written so far, eight bytes, once for all batches that it found
 together. It closes the connection if it does not record (any further). A batch that does not come whole is not written.
 
+Beside each record is a file of times on the clock of the boot, which no user can write either: a batch is timed when it
+has come, which is before the recorder passes on what is in it, so a request is no later there than at the server, and a
+reply no earlier.
+
 One user cannot hold up the others: a connection has one turn in each round, in which so much is read, so many batches
 are written and one reply is sent, and each user has so many connections. Users without an account have none, since one
 person may have thousands of them. shares.py counts what each user has of the spool, and descriptors.py closes the
@@ -21,6 +25,7 @@ import time
 from sftpv3.spool.descriptors import Closing, received, refuse_descriptors
 from sftpv3.spool.shares import Accounts, Refused, Shares
 from sftpv3.spool.sinks import SPOOL_OPENING, peer
+from sftpv3.spool.timing import Times, boot
 from sftpv3.system import naming, ways
 
 # The longest batch: what a buffer of recorder/packets.py holds, and a byte for each of its packets.
@@ -54,6 +59,7 @@ class Connection:
         self.since = time.monotonic()
         self.held, self.replies = bytearray(), b""
         self.file, self.name, self.written = None, None, 0
+        self.times, self.boot = None, daemon.boot
 
     def fileno(self):
         return self.link.fileno()
@@ -125,12 +131,14 @@ class Connection:
                 self.file, made = naming.open_anew(place)
             except OSError as error:
                 raise Refused(f"cannot make a record: {error.strerror}") from None
+            self.times = Times.beside(made, self.boot)
         self.name = made.path
 
     def keep(self, batches):
-        view = memoryview(b"".join(batches))
-        count = len(view)
-        self.shares.take(self.user, self.written, count)
+        data = b"".join(batches)
+        view, count = memoryview(data), len(data)
+        entries = self.times.entries(data) if self.times else b""
+        self.shares.take(self.user, self.written, count, len(entries))
         try:
             while view:
                 view = view[os.write(self.file, view):]
@@ -138,6 +146,8 @@ class Connection:
             os.ftruncate(self.file, self.written)
             raise Refused(f"cannot write {self.name}: {error.strerror}") from None
         self.written += count
+        if self.times and not self.times.put(entries):
+            self.times = None
 
     def write(self):
         try:
@@ -151,6 +161,8 @@ class Connection:
         if self.file is not None:
             if not self.written:
                 self.shares.take_back(self.user, self.name)
+            if self.times:
+                self.times.close()
             os.close(self.file)
 
 
@@ -193,7 +205,7 @@ class Daemon:
     def __init__(self, options, notices, signals):
         self.options, self.notices, self.signals = options, notices, signals
         self.shares = Shares(self.fit_spool(options.spool), os.path.abspath(options.spool), options)
-        self.accounts, self.closing = Accounts(), Closing()
+        self.accounts, self.closing, self.boot = Accounts(), Closing(), boot()
         # where the socket is that was made here, and which one it is
         self.made = self.identity = None
         self.listeners = {it.fileno(): it for it in self.open_listeners(options.socket)}

@@ -1,7 +1,9 @@
 """What each user has of a spool: who may have records there at all, how many, and how long they are together."""
 import os
 import time
+from contextlib import suppress
 
+from sftpv3.spool.sinks import TIMES, times_name
 from sftpv3.system import mounted, naming, ways
 
 # How many files a file system has to have left for a new record.
@@ -62,7 +64,7 @@ class Share:
     def count_in(self, folder):
         with os.scandir(folder) as found:
             for it in found:
-                self.records += 1
+                self.records += TIMES not in it.name
                 self.used += it.stat(follow_symlinks=False).st_size
                 if self.records >= self.most:
                     break
@@ -112,7 +114,10 @@ class Shares:
             # somebody put the folder away, with all that is in it
             return
         try:
-            os.unlink(os.path.basename(path), dir_fd=folder)
+            name = os.path.basename(path)
+            with suppress(FileNotFoundError):
+                os.unlink(times_name(name), dir_fd=folder)
+            os.unlink(name, dir_fd=folder)
             share.records -= 1
         except OSError:
             # somebody took it out of the folder
@@ -120,11 +125,12 @@ class Shares:
         finally:
             os.close(folder)
 
-    def take(self, user, written, count):
-        """Takes room for so many bytes more of a record."""
+    def take(self, user, written, count, beside=0):
+        """Takes room for so many bytes more of a record, and of its file of times."""
         share = self.by_user[user]
         if written + count > self.options.per_session:
             raise Refused("the record is too long")
+        count += beside
         if not share.allows(lambda it: it.used + count <= self.options.per_user):
             raise Refused("the records of this user are too long")
         self.check_free(count)

@@ -1,6 +1,7 @@
 """Where records go: files, pipes, a spool. A sink that has not written all is busy, and then nothing is passed on. And
 the file of times beside a transcript: when each record was there, as docs/FORMATS.md has it."""
 import os
+import re
 import select
 import struct
 import time
@@ -19,6 +20,8 @@ SPOOL_PATIENCE = 10
 # A file of times of the second form says on which clock of which boot its times are.
 TIMES_OPENING, BOOT_OPENING = b"SFTPTM01", b"SFTPTM02"
 BOOT_ID, BOOT_BYTES = "/proc/sys/kernel/random/boot_id", 16
+# The name of a transcript, and with what the name of a file of times beside it ends in its place.
+TRANSCRIPT, TIMES = re.compile(r"(.*)\.transcript((?:\.[0-9a-f]+)?)", re.DOTALL), ".times"
 # How often the date is asked for, to have one between two close looks at the machine's own clock.
 TRIES = 5
 
@@ -238,6 +241,12 @@ class TimesSink:
 
     def put_count(self, count):
         self.sink.put(time_entries([self.clock() - self.start] * count))
+
+
+def times_name(name):
+    """The name of the file of times beside a transcript of this name; None if no transcript is named like that."""
+    found = TRANSCRIPT.fullmatch(name)
+    return found and found[1] + TIMES + found[2]
 
 
 class BootTimesSink(TimesSink):

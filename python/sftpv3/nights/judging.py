@@ -1,0 +1,367 @@
+"""What a night says of records and of sets of them, and what becomes of their copies: accepted, refused or unjudged."""
+import os
+import subprocess
+from contextlib import ExitStack, contextmanager
+from typing import NamedTuple
+
+from sftpv3.codec import CLIENT, Malformed
+from sftpv3.codec import records as records_in
+from sftpv3.nights import accounts, causes, journal, sets
+from sftpv3.nights.auditing import named, said_of_unanswered
+from sftpv3.nights.journal import AFTER, NEXT, NONE, SAME, TREE, Decision
+from sftpv3.nights.parts import Part, reach_of
+from sftpv3.nights.records import NEW, Copy, Failed, end_of_silence, is_empty
+from sftpv3.nights.spans import may_overlap
+from sftpv3.system import children, ending
+
+# How many lines are printed of a refusal.
+MOST_REASONS = 100
+# How many sessions are named that ran at the same time.
+NAMED = 5
+
+
+def listed(records):
+    """The names of some records, cut short."""
+    names = [it.shown() for it in records]
+    more = f" and {len(names) - NAMED} more" if len(names) > NAMED else ""
+    return ", ".join(names[:NAMED]) + more
+
+
+def said_beside(record, others):
+    """What is said of the sessions that may have run at the same time."""
+    beside = [it for it in others if it is not record and may_overlap(it.span, record.span)]
+    return f" (beside {listed(beside)})" if beside else ""
+
+
+class Refusal(NamedTuple):
+    """What was refused: what it is called in lines, whose session it is, where its copy is kept, and the verdict; and
+    what is said of the sessions that may have run at the same time, if they were not judged with it."""
+
+    name: str
+    user: str
+    place: str
+    line: str
+    beside: str = ""
+
+
+class Judge:
+    """Judges records from the tree of the night, one by one or as sets. `night` prints what it says, and runs the
+    programs."""
+
+    def __init__(self, night):
+        self.night, self.given, self.say = night, night.given, night.say
+        self.accepted = self.unanswered = 0
+        # what this night kept, and of which users; and what it refused
+        self.kept, self.refusals = [], []
+
+    @contextmanager
+    def copied(self, records):
+        """Copies of records, which are closed behind the block; what is not kept of them is removed then."""
+        taken = {}
+        with ExitStack() as stack:
+            stack.callback(self.night.tidy)
+            copies = []
+            for record in records:
+                copies.append(self.copy_of(record, sets.stem_of(record.name, taken)))
+                stack.callback(copies[-1].close)
+            yield copies
+
+    def copy_of(self, record, stem):
+        record.open()
+        try:
+            return Copy(record, self.night.numbers, stem, record.part)
+        except OSError as error:
+            raise Failed(f"{record.shown()}: cannot be copied: {error.strerror}") from None
+        finally:
+            record.close()
+
+    def judge(self, record, note=""):
+        """Audits a copy of a record."""
+        with self.copied([record]) as (copy,):
+            self.audit(copy, note)
+
+    def audit(self, copy, note=""):
+        """Audits a session, if there is a tree to start from, and makes its last tree the one of the next. What comes
+        of it is said before the record is taken from the spool, so nothing hides it."""
+        name = copy.record.shown()
+        if not os.path.exists(TREE) or copy.record.is_lost():
+            self.give_up([copy], f"{name}: not judged, since there is no tree that it started from")
+        elif not self.is_silent(copy, note):
+            self.audit_requests(copy, name, note)
+
+    def is_silent(self, copy, note=""):
+        """Whether nothing was asked, or recorded at all, which is said then."""
+        name = copy.record.shown()
+        if is_empty(copy.file):
+            # if the session changed something, the folder has it
+            self.say(f"{name}: not judged: nothing was recorded{note}", 1)
+            self.keep([copy], "unjudged", SAME)
+            return True
+        silence = end_of_silence(copy.file)
+        if silence:
+            self.say(f"{name}: nothing was asked: the record ends {silence}{note}")
+            self.keep([copy], "accepted", SAME)
+            self.accepted += 1
+        return bool(silence)
+
+    def audit_requests(self, copy, name, note):
+        self.night.become(self.night.account(copy.record.user))
+        file = f"/proc/self/fd/{copy.file}"
+        found = self.run_audit([copy], file, name, note, pass_fds=[copy.file])
+        if found is None:
+            return
+        first, *more = named(found.lines(), file, name) or [""]
+        if found.status == 0:
+            self.accept([copy], f"{name}: {first}{note}", first)
+        elif found.status != 1 and not first.startswith("sftpv3: transcript: "):
+            raise Failed(f"{name}: the audit ended with status {found.status}: {' '.join([first, *more]).strip()}")
+        else:
+            self.say(f"{name}: {first}{note}", 1)
+            self.night.say_lines(more)
+            (place,) = self.keep([copy], "refused", NONE, [first, *more])
+            self.refusals.append(Refusal(name, copy.record.user, place, first, note))
+
+    def run_audit(self, copies, transcript, name, note, pass_fds=()):
+        """The audit of a transcript from the tree, or None if it came to no verdict, which is said, and the copies are
+        put aside."""
+        try:
+            found = self.night.run_program(MOST_REASONS, "audit", *self.night.options, "--explain", "--tree", TREE,
+                                           "--transcript", transcript, "--out", AFTER, pass_fds=pass_fds)
+        except subprocess.TimeoutExpired:
+            self.give_up(copies, f"{name}: not judged: the audit did not end within {self.given.audit_seconds:g} "
+                         f"seconds (--audit-seconds){note}")
+            return None
+        if found.status == 3 and found.starts("sftpv3: out of memory"):
+            self.give_up(copies, f"{name}: not judged: the audit needs more than {self.bound()}{note}")
+            return None
+        return found
+
+    def bound(self):
+        """What bounds the memory of what a night runs."""
+        return children.lower_space(self.night.space()) or f"{self.given.memory} bytes of memory (--memory)"
+
+    # sessions that run
+
+    def judge_running(self, record):
+        """Judges what a session that runs has done so far, and for good what it had done when it was last quiet."""
+        with self.copied([record]) as (copy,):
+            if not os.path.exists(TREE) or record.is_lost():
+                self.lose(copy)
+                return
+            size = os.fstat(copy.file).st_size
+            found = reach_of(copy.file, record.part and Part(record.part.head, record.part.head, 2), size)
+            if found.head is None:
+                return
+            copy.cut(found.end, found.count)
+            if not self.is_right_so_far(copy):
+                return
+            if found.quiet > found.head:
+                copy.cut(found.quiet, found.quiet_count)
+                self.go_on_behind(copy, found)
+            elif record.part is None:
+                self.night.note_part(record, Part(found.head, found.head, 2))
+
+    def lose(self, copy):
+        """Holds on to it that there is no tree from which the session could be judged."""
+        self.say(f"{copy.record.shown()}: still running; it is not judged, since there is no tree that it started from",
+                 1)
+        if not copy.record.is_lost():
+            self.night.note_part(copy.record, (copy.record.part or Part(0, 0, 0))._replace(is_lost=True))
+
+    def is_right_so_far(self, copy):
+        """Whether all that a session has done is right, which is said."""
+        name, file = copy.record.shown(), f"/proc/self/fd/{copy.file}"
+        self.night.become(self.night.account(copy.record.user))
+        found = self.run_audit([], file, f"{name}: still running", "", pass_fds=[copy.file])
+        if found is None:
+            return False
+        first, *more = named(found.lines(), file, name) or [""]
+        if found.status == 0:
+            self.say(f"{name}: {first} so far; still running")
+            return True
+        if found.status != 1 and not first.startswith("sftpv3: transcript: "):
+            raise Failed(f"{name}: the audit ended with status {found.status}: {' '.join([first, *more]).strip()}")
+        self.say(f"{name}: {first}; still running", 1)
+        self.night.say_lines(more)
+        part = (copy.record.part or Part(0, 0, 0))._replace(is_lost=True)
+        (place,) = self.keep([copy], "refused", NONE, [first, *more], self.night.parts_with(copy.record, part))
+        self.refusals.append(Refusal(name, copy.record.user, place, first))
+        return False
+
+    def go_on_behind(self, copy, found):
+        """Keeps what was done up to a quiet moment, and goes on from its tree."""
+        name, file = copy.record.shown(), f"/proc/self/fd/{copy.file}"
+        done = self.run_audit([], file, name, "", pass_fds=[copy.file])
+        if done is None:
+            return
+        if done.status != 0:
+            raise Failed(f"{name}: of what was accepted, a part is not: {' '.join(done.lines())}")
+        before = copy.record.part or Part(found.head, found.head, 2)
+        part = Part(before.at + found.quiet - found.head, found.head, before.count + found.quiet_count - 2)
+        self.keep([copy], "accepted", NEXT, (), self.night.parts_with(copy.record, part))
+        copy.record.part = part
+
+    # sets
+
+    def judge_together(self, records):
+        """Judges sessions that may have run at the same time, of which there are at least two."""
+        most = self.given.memory // sets.SHARE
+        if len(records) > sets.MOST or sum(it.size for it in records) > most:
+            self.say(f"{listed(records)} are not judged together: they are more than {sets.MOST}, or have more than "
+                     f"{most} bytes")
+            for record in records:
+                self.judge(record, said_beside(record, records))
+            return
+        with self.copied(records) as copies:
+            has_tree = os.path.exists(TREE) and not any(it.is_lost() for it in records)
+            asked = [it for it in copies if not self.is_silent(it)] if has_tree else copies
+            if len(asked) < 2 or not has_tree:
+                for copy in asked:
+                    self.audit(copy)
+            else:
+                self.judge_set(asked)
+
+    def judge_set(self, copies):
+        records = [it.record for it in copies]
+        name = f"{listed(records)}, judged together"
+        try:
+            makers = accounts.makers(copies) if len({it.record.user for it in copies}) > 1 else set()
+        except Malformed as error:
+            self.judge_one_by_one(copies, str(error))
+            return
+        if len(makers) > 1:
+            self.give_up(copies, f"{name}: not judged: sessions of several accounts ({', '.join(sorted(makers))}) that "
+                         "overlap may each have made something, and a set has one owner of what is made")
+            return
+        self.night.become(self.night.account(next(iter(makers), records[0].user)))
+        answer, note = self.best_answer(copies)
+        if answer is None:
+            self.give_up(copies, f"{name}: not judged: no order was found or refuted within "
+                         f"{self.given.audit_seconds:g} seconds (--audit-seconds)")
+        elif answer.status == sets.ACCEPTED:
+            self.accept_set(copies, name, answer.line + note)
+        elif answer.status == sets.REFUSED:
+            self.say(f"{name}: {answer.line}{note}", 1)
+            places = self.keep(copies, "refused", NONE, [answer.line])
+            self.note_refusal(name, copies, places, answer.line)
+        elif answer.status == sets.UNDECIDED:
+            self.give_up(copies, f"{name}: not judged: {answer.line}{note}")
+        elif answer.status == sets.USAGE:
+            self.judge_one_by_one(copies, answer.line)
+        elif answer.line.endswith("out of memory"):
+            self.give_up(copies, f"{name}: not judged: the search needs more than {self.bound()}")
+        else:
+            self.give_up(copies, f"{name}: not judged: sftpv3-together failed: {answer.line}")
+
+    def note_refusal(self, name, copies, places, line):
+        """Notes which record of a set is refused."""
+        for copy, place in zip(copies, places):
+            if f"refused: {os.path.basename(copy.place)} record " in line:
+                self.refusals.append(Refusal(name, copy.record.user, place, line))
+
+    def best_answer(self, copies):
+        """What is said of a set, and a note on its times: by the times of its records if they have them. Otherwise the
+        sessions may come one after the other; and if that explains nothing, in any order at all. None for the answer if
+        the time was over."""
+        if sets.are_of_one_clock(copies):
+            return self.answer(copies, sets.OWN), ""
+        found = self.answer(copies, sets.STARTS)
+        if found is None or found.status in (sets.USAGE, sets.FAILED):
+            return found, ""
+        if found.status == sets.ACCEPTED:
+            return found, ", one session after the other"
+        return self.answer(copies, sets.NOTHING), "; their times are not recorded"
+
+    def answer(self, copies, by):
+        """What sftpv3-together says, by its status and its last line; None if the time was over."""
+        sets.lay_out(copies, by, self.homes(copies))
+        words = sets.words(TREE, self.night.options, self.given.steps)
+        try:
+            found = self.night.run_bounded(words, 1, env={**os.environ, "TMPDIR": os.path.abspath(NEW),
+                                                          "SFTPV3": self.night.program})
+        except subprocess.TimeoutExpired:
+            return None
+        return sets.answer_of(found.status, found.last)
+
+    def homes(self, copies):
+        """Where the relative paths of each session start, if the sessions are of several accounts, or nothing."""
+        users = [it.record.user for it in copies]
+        return [self.night.account(it).home for it in users] if len(set(users)) > 1 else []
+
+    def judge_one_by_one(self, copies, why):
+        """Judges sessions of a set that cannot be one in the order of their starts."""
+        records = [it.record for it in copies]
+        self.say(f"{listed(records)} are not judged together: {why}")
+        for copy in copies:
+            self.audit(copy, said_beside(copy.record, records))
+
+    def accept_set(self, copies, name, line):
+        """Accepts a set whose order `sftpv3 audit` accepts, too, and goes on from the tree at its end."""
+        found = self.run_audit(copies, sets.MERGED, name, "")
+        if found is None:
+            return
+        if found.status != 0:
+            self.give_up(copies, f"{name}: not judged: sftpv3 audit does not accept the order that was found: "
+                         f"{' '.join(found.lines())}")
+            return
+        self.accept(copies, f"{name}: {line}", line)
+
+    def sender_of_malformed(self, refusal):
+        """Who sent the packet for which a record is malformed, or None if it is no packet that is wrong."""
+        found = causes.WIRE.search(refusal.line)
+        if not found:
+            return None
+        with open(refusal.place, "rb") as file:
+            sides = [side for side, _ in records_in(file.read())]
+        number = int(found[1])
+        if " Wire " not in refusal.line or number > len(sides):
+            return None
+        return causes.CLIENT_S if sides[number - 1] == CLIENT else causes.SERVER_S
+
+    # what becomes of copies
+
+    def accept(self, copies, text, first):
+        """Says that copies are accepted, and goes on from the tree in which they end."""
+        unanswered, status = said_of_unanswered(first)
+        self.say(text, status)
+        self.night.say_lines(unanswered)
+        self.keep(copies, "accepted", NEXT)
+        self.accepted += len(copies)
+        self.unanswered += bool(unanswered) or "without a reply" in first
+
+    def give_up(self, copies, text):
+        """Says that copies cannot be judged, and puts them aside."""
+        self.say(text, 1)
+        if copies:
+            self.keep(copies, "unjudged", NONE)
+
+    def keep(self, copies, kind, tree, verdict=(), parts=None):
+        """Keeps copies, with a verdict beside each, and has their records out of the spool, whatever signal comes
+        meanwhile; but those of sessions that run stay there, of which `parts` says how far they are judged. What comes
+        behind those that are not accepted has no tree to start from. Returns where each copy is kept."""
+        places = []
+        with ending.put_off():
+            decision = Decision(tree, self.night.parts_without(copies) if parts is None else parts)
+            is_noted = bool(verdict) and self.note_verdicts(copies, verdict)
+            for copy in copies:
+                place = copy.place_in(kind)
+                places.append(place)
+                decision.moves += copy.moves_to(place)
+                if is_noted:
+                    decision.moves.append((copy.verdict(), f"{place}.verdict"))
+                decision.records += [copy.record] * (parts is None)
+            journal.carry_out(decision)
+            self.night.numbers.settle()
+            self.night.parts = self.night.parts if decision.parts is None else decision.parts
+        self.kept += [(place, it.record.user) for place, it in zip(places, copies)]
+        return places
+
+    def note_verdicts(self, copies, verdict):
+        """Has the verdict on the disk that is kept beside each copy. Returns whether that could be done."""
+        try:
+            for copy in copies:
+                journal.write(copy.verdict(), "".join(f"{line}\n" for line in verdict))
+        except OSError as error:
+            self.say(f"  the verdict cannot be kept beside the record: {error.strerror}", 1)
+            return False
+        return True
