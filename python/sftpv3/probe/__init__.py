@@ -14,6 +14,9 @@ transfers   large scenes with much data, or with many names or handles; meetings
 lasting     what is looked at once the server was started again on the files of a session
 sessions    plays a plan against a server, and records it
 together    a session over two connections to the same files
+workloads   what several clients do at once on one folder; clients: which play that, each with a server of its own
+sets        what `sftpv3-together` says of their sessions; overlaps: a run of the probe with --clients; overlap_reports:
+            what it prints, keeps and reports
 restarts    starts the server again on the files of a session, and plays the last steps of a plan there
 below       a plan below a directory of its own; removes what sessions made there; sessions with a server whose files
             nobody can see, which look first

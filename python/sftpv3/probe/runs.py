@@ -237,7 +237,7 @@ class Run:
 
     def planned(self, seed, skip):
         """The steps of a seed, and those that look, where that can be, at what they leave."""
-        steps = planner.plan(seed, self.tree, self.given.requests, skip)
+        steps = planner.plan(seed, self.tree, self.given.requests or options.REQUESTS, skip)
         if features.TOGETHER in self.given.also:
             steps = together.dealt(steps, seed)
         return lasting.lasting(steps, self.tree, skip) if self.again.is_wanted else steps
