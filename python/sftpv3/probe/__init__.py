@@ -10,7 +10,8 @@ scenes      small scenes that make sense; refusals: requests that some cause ref
 transfers   large scenes with much data, or with many names or handles; meetings: in which requests meet on one thing;
             pairs: of requests that depend on the one just before; renewals: that look again at what changed;
             remains: at what is left; crossings: of things of another kind than expected; dating: of times; takeovers:
-            of what takes a place; holdings: of what a file, a directory or a link keeps
+            of what takes a place; holdings: of what a file, a directory or a link keeps; deeper, buffers: of what
+            people get wrong who write a server
 lasting     what is looked at once the server was started again on the files of a session
 sessions    plays a plan against a server, and records it
 together    a session over two connections to the same files
@@ -22,6 +23,7 @@ below       a plan below a directory of its own; removes what sessions made ther
             nobody can see, which look first
 ownfiles    refuses to play where the server has other files than the tree's
 verdicts    asks `sftpv3 audit`, and goes on after a difference
+leaks       what a server took of the system and did not give back
 groups      differences that are alike, and those that have one cause
 needs       guesses at what a step needs; shrinking: by them, the shortest session that still shows a difference
 options     the command line, and the exit statuses

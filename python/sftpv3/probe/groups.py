@@ -36,6 +36,8 @@ class Group:
 
     def __init__(self, key, first, steps):
         self.key, (self.request, self.causes, self.expected, self.found) = key, key
+        if first.verdict.kind == "Leak":
+            self.found = first.found
         # the departures of a profile that would accept it
         self.allowed = first.verdict.lines.get("allowed by")
         # the options of a profile with which it would be accepted
@@ -135,6 +137,8 @@ def plain_key(difference):
     verdict = difference.verdict
     if verdict.kind == "Times":
         return difference.name, (), difference.expected, difference.found
+    if verdict.kind == "Leak":
+        return difference.name, (), difference.expected, "descriptors more"
     if verdict.kind in ("Unanswered", "NotStarted", "Ended"):
         found = "no reply in time" if difference.session.silent() else difference.found
         return difference.name, (), difference.expected, found

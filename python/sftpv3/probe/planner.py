@@ -13,8 +13,8 @@ import itertools
 import random
 
 from sftpv3 import codec
-from sftpv3.probe import (crossings, dating, deeper, features, holdings, meetings, pairs, refusals, remains, renewals,
-                          scenes, takeovers, transfers)
+from sftpv3.probe import (buffers, crossings, dating, deeper, features, holdings, meetings, pairs, refusals, remains,
+                          renewals, scenes, takeovers, transfers)
 from sftpv3.probe.model import DIRECTORY, FILE, LINK, Model, apply
 from sftpv3.probe.plans import Handle, Step
 from sftpv3.probe.transfers import listing
@@ -295,7 +295,7 @@ def ids_of(seed):
 # The scenes that come behind all others, each row by a planner of its own, whose random numbers its word is for.
 BEHIND = [("further", crossings.PERIODS), ("dated", dating.PERIODS), ("remaining", remains.PERIODS),
           ("dated again", dating.MORE), ("taking", takeovers.PERIODS), ("holding", holdings.PERIODS),
-          ("deeper", deeper.PERIODS)]
+          ("deeper", deeper.PERIODS + buffers.PERIODS)]
 
 
 def plan(seed, tree, count, skip=()):

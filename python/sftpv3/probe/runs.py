@@ -9,8 +9,8 @@ from typing import List, Optional
 from sftpv3.codec import trees
 from sftpv3.page import document
 from sftpv3.peer import servers
-from sftpv3.probe import (below, features, groups, hints, lacking, lasting, limits, options, ownfiles, planner, plans,
-                          reports, restarts, sessions, shrinking, starting, together, verdicts)
+from sftpv3.probe import (below, features, groups, hints, lacking, lasting, leaks, limits, options, ownfiles, planner,
+                          plans, reports, restarts, sessions, shrinking, starting, together, verdicts)
 from sftpv3.probe.sessions import NotStarted
 from sftpv3.system import program
 from sftpv3.walk import bounds
@@ -123,6 +123,7 @@ class Plan:
             played.requests = session.asked() + session.unasked
         played.unjudged = judged.unjudged + session.unasked
         played.ownerless = judged.ownerless
+        played.memory = max(played.memory, leaks.memory(session))
 
     def ends_alike(self, session):
         """Whether the server ended behind the same number of requests often enough."""
@@ -340,7 +341,9 @@ class Run:
         """What to do otherwise in the next run."""
         budget = None if self.until.is_set() else hints.of_budget(found, self.given.budget)
         start = hints.of_start(found, self.pool.jobs)
-        return [line for line in (*hints.advice(found, self.auditor), start, self.root.advice(), budget) if line]
+        memory = leaks.advice(self.tally.played)
+        known = hints.advice(found, self.auditor)
+        return [line for line in (*known, start, self.root.advice(), memory, budget) if line]
 
     def run(self):
         """Gives the exit status."""
