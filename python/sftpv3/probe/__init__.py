@@ -26,8 +26,9 @@ verdicts    asks `sftpv3 audit`, and goes on after a difference
 leaks       what a server took of the system and did not give back
 groups      differences that are alike, and those that have one cause
 needs       guesses at what a step needs; shrinking: by them, the shortest session that still shows a difference
+known       the kinds that are expected, and the seeds that differed last
 options     the command line, and the exit statuses
 limits      what ends a run early, what was played, and how far the probe is; plays sessions side by side
-runs        one run of the probe
+runs        one run of the probe; quick: a first run
 reports     what is printed, kept and reported, also as JUnit; a difference as pages and reports show it
 """

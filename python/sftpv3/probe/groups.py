@@ -67,6 +67,15 @@ class Group:
         if self.shortest is None and self.whole == NO_TIME:
             self.whole = FAILED
 
+    def is_short(self):
+        """Whether its session was shrunk to the end."""
+        return self.shortest is not None and not self.partly
+
+    def place(self):
+        """How far its first session had come when it was refused."""
+        places = [place for place in (self.first.request, self.first.reply) if place is not None]
+        return max(places, default=len(self.first.session.records))
+
     def put_behind(self, others):
         """Takes in the groups that came before one of the differences."""
         self.behind = set(others) if self.behind is None else self.behind & others
@@ -116,8 +125,11 @@ class Groups:
         return group
 
     def all(self):
-        """The groups, those with the most sessions first, and each before those with the same cause."""
+        """The groups, those with the most sessions first, and each before those with the same cause. Among those whose
+        session is not as short as it gets, that comes first whose reply was refused earliest."""
         found = sorted(self.by_key.values(), key=lambda group: (-len(group.seeds), -group.count))
+        unsure = iter(sorted([group for group in found if not group.is_short()], key=Group.place))
+        found = [group if group.is_short() else next(unsure) for group in found]
         return [one for group in found if not group.leader for one in [group] + group.followers]
 
 

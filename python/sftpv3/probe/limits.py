@@ -227,6 +227,9 @@ class Tally:
         """How many sessions differ."""
         return sum(bool(one.groups) for one in self.played)
 
+    def seeds_that_differ(self):
+        return [one.seed for one in self.played if one.groups]
+
     @property
     def left(self):
         """How many sessions were not played."""

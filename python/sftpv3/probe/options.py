@@ -71,6 +71,10 @@ def seeds(text):
     return found
 
 
+# The seeds that are played unless others are named.
+USUAL_SEEDS = seeds("1-50")
+
+
 def side_by_side(text):
     number = positive(text)
     if number > MOST_JOBS:
@@ -175,7 +179,7 @@ def parser(about):
 
 def add_of_plans(add):
     add("--tree", metavar="FILE", help="the tree file to start from (else one of the probe's own)")
-    add("--seeds", metavar="A-B,...", type=seeds, default=seeds("1-50"),
+    add("--seeds", metavar="A-B,...", type=seeds, default=USUAL_SEEDS,
         help="the seeds to play: ranges, and single ones (1-50)")
     add("--requests", metavar="N", type=positive,
         help=f"requests of small scenes in a session ({REQUESTS}), or with --clients of each client (150)")
@@ -217,6 +221,12 @@ def add_of_run(add):
     add("--budget", metavar="S", type=pause, default=shrinking.BUDGET,
         help=f"seconds to shrink all differences ({shrinking.BUDGET}); 0: shrink none")
     add("--first", action="store_true", help="play no more seeds once there is a difference")
+    add("--max-kinds", metavar="N", type=positive, help="play no more seeds once there are N kinds of difference")
+    add("--quick", action="store_true",
+        help="a first run, of at most a minute: plain requests alone, each kind of difference shrunk and shown at once")
+    add("--known", metavar="FILE",
+        help="a report in JSON lines: its kinds of difference are expected, and only counted")
+    add("--last-failed", action="store_true", help="play the seeds that differed in the last run with this --keep")
     add("--keep", metavar="FOLDER", default="probe-kept",
         help="where to keep shrunk sessions; while another run keeps some there, FOLDER.2, ... (probe-kept)")
     add("--report", metavar="FILE",
@@ -269,7 +279,8 @@ def can_write(option, name):
 def check_clients(found, given):
     """Refuses what --clients has no use for."""
     for option, value in (("--look-first", given.look_first), ("--session", given.session), ("--also", given.also),
-                          ("--in-flight", given.in_flight)):
+                          ("--in-flight", given.in_flight), ("--quick", given.quick), ("--known", given.known),
+                          ("--last-failed", given.last_failed), ("--max-kinds", given.max_kinds)):
         if value:
             found.error(f"--clients excludes {option}")
     if given.report and given.report.endswith((".html", ".htm")):
@@ -294,7 +305,10 @@ def options(about):
     if option and not keeps_files(given):
         found.error(f"{option} needs a server that has the same files when it is started once more: put {{folder}} "
                     "where it takes a folder, or give --reset or --look-first")
-    names = [("--tree", given.tree), ("--session", given.session), ("--report", given.report)]
+    for option in ("--quick", "--last-failed"):
+        if given.session and getattr(given, option[2:].replace("-", "_")):
+            found.error(f"--session excludes {option}")
+    names = [("--tree", given.tree), ("--session", given.session), ("--report", given.report), ("--known", given.known)]
     if twice := named_twice(names, may_be_one=("--tree", "--session")):
         found.error(f"{twice[0]} and {twice[1]} name one file")
     return given

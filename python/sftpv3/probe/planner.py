@@ -248,7 +248,9 @@ class Planner:
 
     def path(self, place):
         """A path of this place, spelled in some way. Of none it is one that may lead nowhere."""
-        return b"/absent" if place is None else spell(self.random, self.model, place)
+        if place is None:
+            return b"/absent"
+        return text_of(place) if features.SPELLINGS in self.skip else spell(self.random, self.model, place)
 
     def handle(self, kind, flags=0):
         """A handle of this kind with these flags that is open, or None."""
@@ -316,9 +318,14 @@ def plan(seed, tree, count, skip=()):
     return steps
 
 
+def text_of(place):
+    """The absolute path of a place."""
+    return b"/" + b"/".join(place)
+
+
 def spell(random, model, place):
     """A path of this place: mostly its absolute text, and else one of many others."""
-    text = b"/" + b"/".join(place)
+    text = text_of(place)
     if random.random() < 0.3:
         text = random.choice([doubled, dotted, roundabout, through_link, ending])(random, model, place, text)
     if not model.home and text.startswith(b"/") and random.random() < 0.2:
