@@ -15,6 +15,9 @@ import time
 
 from sftpv3.codec import EXCL, OK, SERVER, Packet, Request, decode, encode, read, status
 
+# The end of the name of a file that stands beside a folder which a server had.
+HAD = ".had"
+
 # From so many requests on, a session is that of a client of a set.
 MUCH = 50
 
@@ -25,8 +28,8 @@ LATE, ONE_OF = 0.03, 6
 class Between:
     """A client, and the right server behind. `asked` has the requests that were passed on, by their ids."""
 
-    def __init__(self, fault, seed, words):
-        self.fault, self.choice = fault, random.Random(f"{fault} {seed}")
+    def __init__(self, fault, seed, words, is_first=False):
+        self.is_first, self.fault, self.choice = is_first, fault, random.Random(f"{fault} {seed}")
         self.server = subprocess.Popen(words, stdin=subprocess.PIPE, stdout=subprocess.PIPE)
         self.out, self.to_server = threading.Lock(), threading.Lock()
         self.asked, self.shown, self.own = {}, {}, {}
@@ -98,15 +101,17 @@ class Between:
             if data is None:
                 break
             self.from_client(data)
+        self.say()
         time.sleep(2 * LATE)
         self.server.stdin.close()
         replies.join()
         return self.server.wait()
 
-    def say(self, name, is_first):
-        """Says how often the fault acted."""
-        if name and (self.count >= MUCH or not is_first):
-            with open(name, "a" if is_first else "w", encoding="ascii") as file:
+    def say(self):
+        """Says how often the fault acted, before anybody may lose patience."""
+        name = os.environ.get("ORDER_ACTED")
+        if name and (self.count >= MUCH or not self.is_first):
+            with open(name, "a" if self.is_first else "w", encoding="ascii") as file:
                 print(self.acted, file=file)
 
 
@@ -197,7 +202,7 @@ ON_REPLY = {"stale-read": stale("READ"), "stale-stat": stale("STAT"), "wrong-byt
 def is_first_of(folder):
     """Whether no server was started with this folder before."""
     try:
-        with open(folder + ".had", "x", encoding="ascii"):
+        with open(folder + HAD, "x", encoding="ascii"):
             return True
     except FileExistsError:
         return False
@@ -210,8 +215,6 @@ def main():
         folder, words = words[1], words[2:]
         if not is_first_of(folder):
             os.execvp(words[0], words)
-        seed = f"{seed} {os.environ.get('SFTPV3_TREE', '')}"
-    between = Between(fault, seed, words)
-    status = between.run()
-    between.say(os.environ.get("ORDER_ACTED"), is_first)
-    sys.exit(status)
+        above = os.path.dirname(folder)
+        seed = f"{seed} {sum(name.endswith(HAD) for name in os.listdir(above))}"
+    sys.exit(Between(fault, seed, words, is_first).run())
