@@ -9,8 +9,8 @@ from typing import List, Optional
 from sftpv3.codec import trees
 from sftpv3.page import document
 from sftpv3.peer import servers
-from sftpv3.probe import (below, features, groups, hints, known, lacking, lasting, leaks, limits, options, ownfiles, planner,
-                          plans, reports, restarts, sessions, shrinking, starting, together, verdicts)
+from sftpv3.probe import (below, features, groups, hints, known, lacking, lasting, leaks, limits, options, ownfiles,
+                          planner, plans, reports, restarts, sessions, shrinking, starting, together, verdicts)
 from sftpv3.probe.sessions import NotStarted
 from sftpv3.system import program
 from sftpv3.walk import bounds

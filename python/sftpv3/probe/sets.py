@@ -18,6 +18,10 @@ ACCEPTED, REFUSED, UNDECIDED, ENDED = "accepted", "refused", "undecided", "ended
 # for a READ is judged once more, with READs that are done byte by byte.
 BYTE_BY_BYTE = ("--torn", "1")
 
+# The steps of a search: sets of sound servers with four clients need a tenth of them, and a set without a verdict takes
+# no longer than some seconds.
+STEPS = ("--steps", "200000")
+
 
 def name_of(number):
     """What the files of a client are called."""
@@ -102,7 +106,7 @@ def request_of(played, exchange):
 
 
 def of_run(played, folder, tree_file, options, stop):
-    words = [program.command("together"), folder, "--tree", tree_file, "--json", *options]
+    words = [program.command("together"), folder, "--tree", tree_file, "--json", *STEPS, *options]
     done = programs.run(words, stop)
     try:
         told = json.loads(done.stdout)
