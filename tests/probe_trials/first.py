@@ -4,6 +4,7 @@ import json
 import os
 
 from probe_trials.runs import probe, read
+from sftpv3.probe import groups, sessions, verdicts
 from trials.probes import SERVE, faulty, groups_of, planted, stand_in
 
 SMALL = "transfers,crowds,unusual-names,links,deep,many-handles,read-back"
@@ -71,4 +72,24 @@ def try_leaks(steps, folder):
     steps.check("memory is told, and no difference", status == 0 and "MiB more at the end" in said, said)
 
 
-TRIALS = (try_quick, try_known, try_last_failed, try_leaks)
+def difference(seed, request, reply):
+    verdict = verdicts.Verdict(False, "", reply + 1, "NotAllowed", {"expected": f"{request}", "found": f"{request}"})
+    session = sessions.Session(1, [], [])
+    return verdicts.Difference(seed, 1, request, verdict, [], session, reply - 1, reply)
+
+
+def try_order(steps, _):
+    """The earliest refused reply leads where shrinking did not finish."""
+    found = groups.Groups()
+    late, early, short = (difference(1, name, place) for name, place in (("READ", 90), ("STAT", 30), ("MKDIR", 70)))
+    for one in (late, late, late, short, short, early):
+        group = found.add([], one)
+        if one is short:
+            group.shortest = one
+    order = [group.request for group in found.reported()]
+    steps.check("the earliest refused reply leads", order == ["STAT", "MKDIR", "READ"], order)
+    order = [group.request for group in found.all()]
+    steps.check("those with the most differences are shrunk first", order == ["READ", "MKDIR", "STAT"], order)
+
+
+TRIALS = (try_order, try_quick, try_known, try_last_failed, try_leaks)

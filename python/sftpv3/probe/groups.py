@@ -125,12 +125,17 @@ class Groups:
         return group
 
     def all(self):
-        """The groups, those with the most sessions first, and each before those with the same cause. Among those whose
-        session is not as short as it gets, that comes first whose reply was refused earliest."""
+        """The groups, those with the most sessions first, and each before those with the same cause."""
         found = sorted(self.by_key.values(), key=lambda group: (-len(group.seeds), -group.count))
-        unsure = iter(sorted([group for group in found if not group.is_short()], key=Group.place))
-        found = [group if group.is_short() else next(unsure) for group in found]
         return [one for group in found if not group.leader for one in [group] + group.followers]
+
+    def reported(self):
+        """The same as they are reported: of those whose sessions are not as short as they get, that one comes first
+        whose reply was refused earliest."""
+        leaders = [group for group in self.all() if not group.leader]
+        unsure = iter(sorted([group for group in leaders if not group.is_short()], key=Group.place))
+        leaders = [group if group.is_short() else next(unsure) for group in leaders]
+        return [one for group in leaders for one in [group] + group.followers]
 
 
 # What is said of a reply that came once the server had been started again on the files of the session.

@@ -342,7 +342,7 @@ class Run:
 
     def report(self):
         """Writes and prints what was found. It is printed also if it cannot be written, which is then an error."""
-        found = self.groups.all()
+        found = self.groups.reported()
         wrong = self.write(found)
         for group in found:
             reports.print_group(group.number, group)
