@@ -84,6 +84,8 @@ def summary(run, found, unsure):
     lacking = f"; {len(unsure)} undecided, so not accepted" if unsure else ""
     torn = sum(one.verdict is not None and one.verdict.is_torn for one in run.with_word(sets.ACCEPTED))
     lacking += f"; {torn} accepted with a READ that has bytes of two moments" if torn else ""
+    again = sum(one.undecided for one in run.outcomes if one.word != sets.UNDECIDED)
+    lacking += f"; {again} played twice, since the first try was undecided" if again else ""
     what = f"{count} set{'s' if count != 1 else ''} of {run.given.clients} clients"
     if found:
         refused = len(run.refused())
@@ -103,7 +105,7 @@ def of_kind(kind):
 def of_outcome(one):
     """What a JSON line says of a set."""
     return {"seed": one.seed, "workload": one.workload, "verdict": one.word, "accepted": one.word == sets.ACCEPTED,
-            "requests": one.requests, "seconds": round(one.seconds, 3),
+            "requests": one.requests, "undecided_before": one.undecided, "seconds": round(one.seconds, 3),
             "differences": [one.kind.title()] if one.kind else []}
 
 

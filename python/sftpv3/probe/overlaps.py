@@ -9,6 +9,9 @@ from sftpv3.probe.sessions import NotStarted
 from sftpv3.probe.workloads import WORKLOADS
 from sftpv3.system import program
 
+# How often the set of a seed is played if no verdict is reached: at another time the requests meet otherwise.
+TRIES = 2
+
 # How many requests each client has, unless --requests says otherwise.
 REQUESTS = 150
 
@@ -23,6 +26,8 @@ class Outcome:
     seconds: float
     verdict: Optional[sets.Verdict] = None
     played: Optional[clients.Played] = None
+    # how many sets were undecided before this one
+    undecided: int = 0
     # why the server did not start
     not_started: Optional[Exception] = None
     # the kind of what was refused
@@ -98,7 +103,16 @@ class Run(runs.Run):
         return (task_of(place, seed) for place, seed in enumerate(self.given.seeds))
 
     def outcome(self, worker, seed, workload):
-        """Plays and judges the set of a seed."""
+        """Plays and judges the set of a seed, once more if no verdict is reached."""
+        for undecided in range(TRIES):
+            found = self.tried(worker, seed, workload)
+            found.undecided = undecided
+            if found.word != sets.UNDECIDED:
+                break
+        return found
+
+    def tried(self, worker, seed, workload):
+        """Plays and judges a set of a seed."""
         worker.write_tree(self.tree)
         started, count = time.monotonic(), self.given.requests or REQUESTS
         found = Outcome(seed, workload, 0, 0)

@@ -92,8 +92,10 @@ def judge(played, folder, tree_file, options, stop):
     found = of_run(played, folder, tree_file, list(options), stop)
     if found.word == REFUSED and is_read(played, found.refused) and options:
         torn = of_run(played, folder, tree_file, [*options, *BYTE_BY_BYTE], stop)
-        torn.is_torn = True
-        return torn if torn.word != REFUSED else found
+        if torn.word == ACCEPTED:
+            torn.is_torn = True
+            return torn
+        found.why = "; whether it is with READs byte by byte is undecided" if torn.word == UNDECIDED else ""
     return found
 
 
@@ -163,10 +165,10 @@ def told(played, verdict):
     one, other = verdict.refused, verdict.contradicts
     text = f"{record(one)}: {asked(played, one)} answered {answered(played, one)} is right "
     if other is None:
-        return text + "in no order of the requests that may come before it"
+        return f"{text}in no order of the requests that may come before it{verdict.why}"
     why = "which its client asked for earlier" if one.client == other.client else \
         f"which had its reply {gap(played, other, one)} us earlier"
-    return text + f"only before {record(other)} ({asked(played, other)}, {answered(played, other)}), {why}"
+    return text + f"only before {record(other)} ({asked(played, other)}, {answered(played, other)}), {why}{verdict.why}"
 
 
 def lines(played, exchanges):
