@@ -68,6 +68,10 @@ class buffered_by_path(Buffered):
         super().alter(asked)
 
 
+# More names than any directory of a plan has.
+ALL = 1 << 30
+
+
 class Paged(Asks, places=dict):
     """Each READDIR of a directory with many names lists it anew, in the order of the names, and goes on by index."""
 
@@ -78,7 +82,8 @@ class Paged(Asks, places=dict):
         opener = self.opener(asked)
         if asked.name != "READDIR" or opener is None or self.places.get(opener.number, 0) is None:
             return
-        found, place = self.items_now(opener.fields[0]), self.places.get(opener.number, 0)
+        place = self.places.get(opener.number, 0)
+        found = self.items_now(opener.fields[0]) if place < ALL else []
         if place == 0 and len(found) <= self.LEAST:
             self.places[opener.number] = None
         if self.places.get(opener.number, 0) is not None:
@@ -110,7 +115,7 @@ def paged(size):
 
 paged_by_17, paged_by_64, paged_by_100, paged_by_128 = map(paged, (17, 64, 100, 128))
 whole_directory_at_once = Paged.but("The first READDIR of more than 400 names gives all of them in one packet.",
-                                    PAGE=1 << 30, LEAST=400)
+                                    PAGE=ALL, LEAST=400)
 
 
 class Taken(Fault, taken=list):
