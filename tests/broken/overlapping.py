@@ -1,8 +1,10 @@
 """A server with a fault: it passes packets between a client and a right server, and does one thing wrong now and then.
 
-    tests/stand-in overlapping FAULT SEED COMMAND [ARGUMENT ...]
+    tests/stand-in overlapping FAULT SEED [--first-of FOLDER] COMMAND [ARGUMENT ...]
 
-It says on a line of the file that ORDER_ACTED names, if that is set, how often the fault acted.
+It says on a line of the file that ORDER_ACTED names, if that is set, how often the fault acted. With --first-of only
+the first of the servers that are started with this folder has the fault; it adds its line to the file, if its client
+asked as much as a client of a set.
 """
 import os
 import random
@@ -13,6 +15,12 @@ import time
 
 from sftpv3.codec import EXCL, OK, SERVER, Packet, Request, decode, encode, read, status
 
+# The end of the name of a file that stands beside a folder which a server had.
+HAD = ".had"
+
+# From so many requests on, a session is that of a client of a set.
+MUCH = 50
+
 # How long what is late waits, in seconds, and one of how many chances is taken.
 LATE, ONE_OF = 0.03, 6
 
@@ -20,12 +28,12 @@ LATE, ONE_OF = 0.03, 6
 class Between:
     """A client, and the right server behind. `asked` has the requests that were passed on, by their ids."""
 
-    def __init__(self, fault, seed, words):
-        self.fault, self.choice = fault, random.Random(f"{fault} {seed}")
+    def __init__(self, fault, seed, words, is_first=False):
+        self.is_first, self.fault, self.choice = is_first, fault, random.Random(f"{fault} {seed}")
         self.server = subprocess.Popen(words, stdin=subprocess.PIPE, stdout=subprocess.PIPE)
         self.out, self.to_server = threading.Lock(), threading.Lock()
         self.asked, self.shown, self.own = {}, {}, {}
-        self.acted = 0
+        self.acted = self.count = 0
 
     def acts(self):
         """Whether the fault acts now."""
@@ -50,6 +58,7 @@ class Between:
             self.pass_on(data)
             return
         request = decode(data)
+        self.count += 1
         self.asked[request.number] = request
         act = ON_REQUEST.get(self.fault)
         if act is None or not act(self, request, data):
@@ -92,13 +101,18 @@ class Between:
             if data is None:
                 break
             self.from_client(data)
+        self.say()
         time.sleep(2 * LATE)
         self.server.stdin.close()
         replies.join()
-        if os.environ.get("ORDER_ACTED"):
-            with open(os.environ["ORDER_ACTED"], "w", encoding="ascii") as file:
-                print(self.acted, file=file)
         return self.server.wait()
+
+    def say(self):
+        """Says how often the fault acted, before anybody may lose patience."""
+        name = os.environ.get("ORDER_ACTED")
+        if name and (self.count >= MUCH or not self.is_first):
+            with open(name, "a" if self.is_first else "w", encoding="ascii") as file:
+                print(self.acted, file=file)
 
 
 def packet_of(stream):
@@ -185,5 +199,22 @@ ON_REPLY = {"stale-read": stale("READ"), "stale-stat": stale("STAT"), "wrong-byt
             "short-list": short_list}
 
 
+def is_first_of(folder):
+    """Whether no server was started with this folder before."""
+    try:
+        with open(folder + HAD, "x", encoding="ascii"):
+            return True
+    except FileExistsError:
+        return False
+
+
 def main():
-    sys.exit(Between(sys.argv[1], sys.argv[2], sys.argv[3:]).run())
+    fault, seed, *words = sys.argv[1:]
+    is_first = words[0] == "--first-of"
+    if is_first:
+        folder, words = words[1], words[2:]
+        if not is_first_of(folder):
+            os.execvp(words[0], words)
+        above = os.path.dirname(folder)
+        seed = f"{seed} {sum(name.endswith(HAD) for name in os.listdir(above))}"
+    sys.exit(Between(fault, seed, words, is_first).run())

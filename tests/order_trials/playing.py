@@ -8,7 +8,7 @@ import subprocess
 import sys
 from multiprocessing import get_context
 
-from order_trials.workloads import WORKLOADS
+from sftpv3.probe.workloads import WORKLOADS
 from sftpv3.codec import SERVER, Request, encode, init, read, trees
 from sftpv3.system.program import TOP
 

@@ -3,7 +3,7 @@ import os
 
 from order_trials.playing import make_set
 from order_trials.runs import together
-from order_trials.workloads import WORKLOADS
+from sftpv3.probe.workloads import WORKLOADS
 from trials.other_servers import has_openssh
 
 SEEDS = int(os.environ.get("ORDER_SEEDS", "1"))

@@ -37,7 +37,7 @@ import tempfile
 import traceback
 
 from sftpv3.peer import servers
-from sftpv3.probe import limits, options, runs, sessions, verdicts
+from sftpv3.probe import limits, options, overlaps, quick, runs, sessions, verdicts
 from sftpv3.system import program
 from sftpv3.system.replacing import NO_ROOM
 from sftpv3.system.standard import end
@@ -47,7 +47,8 @@ from sftpv3.walk import bounds, looking
 def attempt(given, folder, halt, left):
     """The run, and why if it failed. Gives the status."""
     try:
-        return runs.Run(given, folder, halt, left).run()
+        run = overlaps.Run if given.clients else quick.Run if given.quick else runs.Run
+        return run(given, folder, halt, left).run()
     except options.Wrong as error:
         complain_of(error)
         return options.BAD_USAGE

@@ -1,5 +1,6 @@
 """Packets that go to a server in two pieces, as a connection may cut them: the first ends in the four bytes of the
-length, or a little behind them, and the second goes once the server has taken the first, or some time later."""
+length, or a little behind them, and the second goes once the server has taken the first, or some time later. A few go
+byte by byte."""
 import array
 import fcntl
 import termios
@@ -7,6 +8,9 @@ import time
 
 # Of so many packets one is cut, by its id; and the bytes that the first pieces have.
 EACH, COUNTS = 4, (1, 2, 3, 4, 5, 7, 9, 13)
+
+# Of so many of these one begins with so many single bytes.
+EACH_BY_BYTE, BYTES = 40, 24
 
 # After how many seconds nobody waits any longer. Most servers take a piece at once: so many looks come first, so many
 # seconds apart, and then replies are taken, too.
@@ -19,11 +23,15 @@ class Cuts:
     def __init__(self, seed):
         self.seed, self.deadline = seed, None
 
-    def count(self, packet):
-        """How many bytes of a packet go alone, or 0."""
+    def counts(self, packet):
+        """How many bytes of a packet go alone in each piece before the last."""
         number = int.from_bytes(packet[5:9], "big")
+        if (number + self.seed) % EACH:
+            return []
+        if number // EACH % EACH_BY_BYTE == self.seed % EACH_BY_BYTE:
+            return [1] * min(BYTES, len(packet) - 1)
         count = COUNTS[number // EACH % len(COUNTS)]
-        return count if (number + self.seed) % EACH == 0 and count < len(packet) else 0
+        return [count] if count < len(packet) else []
 
     def begin(self):
         """A first piece goes now."""

@@ -308,8 +308,11 @@ class Streams:
             self.selector.register(stream, selectors.EVENT_READ)
 
     def give(self, packet):
-        count = self.cuts.count(packet) if self.cuts else 0
-        self.leaving += [memoryview(packet)[:count], BREAK] * bool(count) + [memoryview(packet)[count:]]
+        rest = memoryview(packet)
+        for count in self.cuts.counts(packet) if self.cuts else ():
+            self.leaving += [rest[:count], BREAK]
+            rest = rest[count:]
+        self.leaving.append(rest)
 
     def exchange(self, seconds):
         """Writes what can be written, and reads what is there; waits until one of both can be done, at most so long.

@@ -46,6 +46,9 @@ FEATURES = {
     "lasting": "what a session left, looked at once the server was started again on its files",
 }
 
+# What plans of a first run leave out besides: paths with doubled slashes and dots, and those by links.
+SPELLINGS = "spellings"
+
 # What a server has room for, and the tree has not: a difference there says nothing of the server. Plans of the probe
 # leave it out unless `--also` names it.
 BEYOND = {"large", "long-target"}

@@ -36,6 +36,8 @@ class Group:
 
     def __init__(self, key, first, steps):
         self.key, (self.request, self.causes, self.expected, self.found) = key, key
+        if first.verdict.kind == "Leak":
+            self.found = first.found
         # the departures of a profile that would accept it
         self.allowed = first.verdict.lines.get("allowed by")
         # the options of a profile with which it would be accepted
@@ -64,6 +66,15 @@ class Group:
         """Says that it was not shrunk since the run failed."""
         if self.shortest is None and self.whole == NO_TIME:
             self.whole = FAILED
+
+    def is_short(self):
+        """Whether its session was shrunk to the end."""
+        return self.shortest is not None and not self.partly
+
+    def place(self):
+        """How far its first session had come when it was refused."""
+        places = [place for place in (self.first.request, self.first.reply) if place is not None]
+        return max(places, default=len(self.first.session.records))
 
     def put_behind(self, others):
         """Takes in the groups that came before one of the differences."""
@@ -118,6 +129,14 @@ class Groups:
         found = sorted(self.by_key.values(), key=lambda group: (-len(group.seeds), -group.count))
         return [one for group in found if not group.leader for one in [group] + group.followers]
 
+    def reported(self):
+        """The same as they are reported: of those whose sessions are not as short as they get, that one comes first
+        whose reply was refused earliest."""
+        leaders = [group for group in self.all() if not group.leader]
+        unsure = iter(sorted([group for group in leaders if not group.is_short()], key=Group.place))
+        leaders = [group if group.is_short() else next(unsure) for group in leaders]
+        return [one for group in leaders for one in [group] + group.followers]
+
 
 # What is said of a reply that came once the server had been started again on the files of the session.
 AGAIN = ", once the server was started again"
@@ -135,6 +154,8 @@ def plain_key(difference):
     verdict = difference.verdict
     if verdict.kind == "Times":
         return difference.name, (), difference.expected, difference.found
+    if verdict.kind == "Leak":
+        return difference.name, (), difference.expected, "descriptors more"
     if verdict.kind in ("Unanswered", "NotStarted", "Ended"):
         found = "no reply in time" if difference.session.silent() else difference.found
         return difference.name, (), difference.expected, found

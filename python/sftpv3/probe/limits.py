@@ -185,6 +185,8 @@ class Played:
     groups: List = field(default_factory=list)
     # How many of those without a verdict had replies that show no owner.
     ownerless: int = 0
+    # How many bytes of memory more the server had at the end than what it may have stored takes.
+    memory: int = 0
 
     def vain(self):
         """Whether nothing at all was judged: then it does not count as accepted."""
@@ -228,6 +230,9 @@ class Tally:
     def differing(self):
         """How many sessions differ."""
         return sum(bool(one.groups) for one in self.played)
+
+    def seeds_that_differ(self):
+        return [one.seed for one in self.played if one.groups]
 
     @property
     def planned(self):

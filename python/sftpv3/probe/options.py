@@ -12,6 +12,7 @@ from sftpv3.page import exchanges
 from sftpv3.peer import servers
 from sftpv3.peer.options import count, flying, pause, positive, seconds
 from sftpv3.probe import features, lacking, plans, refusals, shrinking
+from sftpv3.probe.workloads import WORKLOADS
 from sftpv3.system import files, program
 from sftpv3.system.parsers import Parser
 from sftpv3.system.ways import Way, from_root, is_inherited, named_twice, names, text_of
@@ -29,6 +30,10 @@ PIECES = 5
 
 # The most servers side by side: each has a folder and a thread of its own from the start.
 MOST_JOBS = 1000
+
+# How many clients may play at once, and the requests of small scenes in a session without them.
+MOST_CLIENTS, REQUESTS = 8, 60
+
 
 class Wrong(Exception):
     """A file or folder of the command line cannot be used."""
@@ -66,6 +71,10 @@ def seeds(text):
     return found
 
 
+# The seeds that are played unless others are named.
+USUAL_SEEDS = seeds("1-50")
+
+
 def side_by_side(text):
     number = positive(text)
     if number > MOST_JOBS:
@@ -75,6 +84,13 @@ def side_by_side(text):
 
 # A limit of a server on the command line.
 LIMIT = re.compile("(packet|handles)=([1-9][0-9]{0,8})")
+
+
+def at_once(text):
+    number = positive(text)
+    if not 2 <= number <= MOST_CLIENTS:
+        raise argparse.ArgumentTypeError(f"from 2 to {MOST_CLIENTS} clients may play at once")
+    return number
 
 
 def room(text):
@@ -114,7 +130,7 @@ def jobs(given):
     if given.jobs:
         return given.jobs
     alone = given.reset or not any("{tree}" in word for word in given.command)
-    return 1 if alone else processors()
+    return 1 if alone else max(1, processors() // given.clients) if given.clients else processors()
 
 
 def keeps_files(given):
@@ -163,9 +179,10 @@ def parser(about):
 
 def add_of_plans(add):
     add("--tree", metavar="FILE", help="the tree file to start from (else one of the probe's own)")
-    add("--seeds", metavar="A-B,...", type=seeds, default=seeds("1-50"),
+    add("--seeds", metavar="A-B,...", type=seeds, default=USUAL_SEEDS,
         help="the seeds to play: ranges, and single ones (1-50)")
-    add("--requests", metavar="N", type=positive, default=60, help="requests of small scenes in a session (60)")
+    add("--requests", metavar="N", type=positive,
+        help=f"requests of small scenes in a session ({REQUESTS}), or with --clients of each client (150)")
     add("--in-flight", metavar="K", type=flying,
         help=f"the most requests without a reply ({ONE} for odd seeds, {MANY} for even ones, {MOST} for each tenth)")
     add("--pieces", metavar="N", type=count, default=PIECES,
@@ -184,6 +201,11 @@ def add_of_plans(add):
     add("--session", metavar="FILE", help="play the requests of this transcript, not those of seeds")
     add("--start-again", metavar="N", type=positive,
         help="start the server again on the same files before the N-th request of --session")
+    add("--clients", metavar="N", type=at_once,
+        help=f"have so many clients (2 to {MOST_CLIENTS}) do the same things at once in one folder of the server, and "
+             "judge their sessions together, as sftpv3-together does")
+    add("--workloads", metavar="NAME,...", type=names_among(set(WORKLOADS)), default=[],
+        help=f"what they do: {', '.join(sorted(WORKLOADS))} (all, in turn)")
     add("--look-first", metavar="PLACE", type=os.fsencode,
         help="play each session in a directory that it makes below this place and removes in the end, and judge it "
              "by the tree that was seen there")
@@ -199,6 +221,12 @@ def add_of_run(add):
     add("--budget", metavar="S", type=pause, default=shrinking.BUDGET,
         help=f"seconds to shrink all differences ({shrinking.BUDGET}); 0: shrink none")
     add("--first", action="store_true", help="play no more seeds once there is a difference")
+    add("--max-kinds", metavar="N", type=positive, help="play no more seeds once there are N kinds of difference")
+    add("--quick", action="store_true",
+        help="a first run, of at most a minute: plain requests alone, each kind of difference shrunk and shown at once")
+    add("--known", metavar="FILE",
+        help="a report in JSON lines: its kinds of difference are expected, and only counted")
+    add("--last-failed", action="store_true", help="play the seeds that differed in the last run with this --keep")
     add("--keep", metavar="FOLDER", default="probe-kept",
         help="where to keep shrunk sessions; while another run keeps some there, FOLDER.2, ... (probe-kept)")
     add("--report", metavar="FILE",
@@ -248,6 +276,17 @@ def can_write(option, name):
         raise Wrong(f"{option}: {name!r} is no folder of this user that no other can write to")
 
 
+def check_clients(found, given):
+    """Refuses what --clients has no use for."""
+    for option, value in (("--look-first", given.look_first), ("--session", given.session), ("--also", given.also),
+                          ("--in-flight", given.in_flight), ("--quick", given.quick), ("--known", given.known),
+                          ("--last-failed", given.last_failed), ("--max-kinds", given.max_kinds)):
+        if value:
+            found.error(f"--clients excludes {option}")
+    if given.report and given.report.endswith((".html", ".htm")):
+        found.error("--clients makes no page: the report is JUnit if its name ends in .xml, else JSON lines")
+
+
 def options(about):
     """The command line as it was given. Wrong usage ends the program."""
     found = parser(about)
@@ -258,13 +297,20 @@ def options(about):
                     "{folder}")
     if given.start_again and not given.session:
         found.error("--start-again names a request of --session")
-    option = "--start-again" if given.start_again else "two-clients" if features.TOGETHER in given.also else None
+    if given.clients:
+        check_clients(found, given)
+    wanted = (("--clients", given.clients), ("--start-again", given.start_again),
+              ("two-clients", features.TOGETHER in given.also))
+    option = next((name for name, is_given in wanted if is_given), None)
     if option and not keeps_files(given):
         found.error(f"{option} needs a server that has the same files when it is started once more: put {{folder}} "
                     "where it takes a folder, or give --reset or --look-first")
     if given.report == "-":
         found.error("--report: standard output has what the run prints, so - is no name for a report")
-    names = [("--tree", given.tree), ("--session", given.session), ("--report", given.report)]
+    for option in ("--quick", "--last-failed"):
+        if given.session and getattr(given, option[2:].replace("-", "_")):
+            found.error(f"--session excludes {option}")
+    names = [("--tree", given.tree), ("--session", given.session), ("--report", given.report), ("--known", given.known)]
     if twice := named_twice(names, may_be_one=("--tree", "--session")):
         found.error(f"{twice[0]} and {twice[1]} name one file")
     return given

@@ -13,8 +13,8 @@ import itertools
 import random
 
 from sftpv3 import codec
-from sftpv3.probe import (crossings, dating, deeper, features, holdings, meetings, pairs, refusals, remains, renewals,
-                          scenes, takeovers, transfers)
+from sftpv3.probe import (buffers, crossings, dating, deeper, features, holdings, meetings, pairs, refusals, remains,
+                          renewals, scenes, takeovers, transfers)
 from sftpv3.probe.model import DIRECTORY, FILE, LINK, Model, apply
 from sftpv3.probe.plans import Handle, Step
 from sftpv3.probe.transfers import listing
@@ -248,7 +248,9 @@ class Planner:
 
     def path(self, place):
         """A path of this place, spelled in some way. Of none it is one that may lead nowhere."""
-        return b"/absent" if place is None else spell(self.random, self.model, place)
+        if place is None:
+            return b"/absent"
+        return text_of(place) if features.SPELLINGS in self.skip else spell(self.random, self.model, place)
 
     def handle(self, kind, flags=0):
         """A handle of this kind with these flags that is open, or None."""
@@ -295,7 +297,7 @@ def ids_of(seed):
 # The scenes that come behind all others, each row by a planner of its own, whose random numbers its word is for.
 BEHIND = [("further", crossings.PERIODS), ("dated", dating.PERIODS), ("remaining", remains.PERIODS),
           ("dated again", dating.MORE), ("taking", takeovers.PERIODS), ("holding", holdings.PERIODS),
-          ("deeper", deeper.PERIODS)]
+          ("deeper", deeper.PERIODS + buffers.PERIODS)]
 
 
 def plan(seed, tree, count, skip=()):
@@ -316,9 +318,14 @@ def plan(seed, tree, count, skip=()):
     return steps
 
 
+def text_of(place):
+    """The absolute path of a place."""
+    return b"/" + b"/".join(place)
+
+
 def spell(random, model, place):
     """A path of this place: mostly its absolute text, and else one of many others."""
-    text = b"/" + b"/".join(place)
+    text = text_of(place)
     if random.random() < 0.3:
         text = random.choice([doubled, dotted, roundabout, through_link, ending])(random, model, place, text)
     if not model.home and text.startswith(b"/") and random.random() < 0.2:

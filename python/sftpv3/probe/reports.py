@@ -15,7 +15,7 @@ from sftpv3 import codec
 from sftpv3.codec import trees, wording
 from sftpv3.page import differing, document, exchanges
 from sftpv3.page.picture import counted
-from sftpv3.probe import verdicts
+from sftpv3.probe import known, verdicts
 from sftpv3.system import files, program, ways
 
 
@@ -66,7 +66,8 @@ def keep(judge, given, number, group, kept):
     files.write_text(os.path.join(place, "verdict.txt"), "\n".join(
         [verdict.text] + [f"{label}: {words}" for label, words in verdict.lines.items()]) + "\n")
     session = judged(kept.difference, "")
-    lines = session_lines(session, texts["session.transcript"].splitlines()) + byte_lines(verdict.lines, session)
+    lines = session_lines(session, texts["session.transcript"].splitlines(), given.quick) + \
+        byte_lines(verdict.lines, session)
     return place, lines + warned(kept.difference.session.errors)
 
 
@@ -128,19 +129,20 @@ def of_group(number, group):
     difference = group.shortest.difference if group.shortest else group.first
     byte = byte_of(difference.verdict.lines, judged(difference, ""))
     return {"kind": number, "group": group.leader.number if group.leader else number, "request": group.request,
-            "causes": list(group.causes), "expected": group.expected, "found": group.found,
+            "causes": list(group.causes), "expected": group.expected, "found": group.key[3],
             "allowed_by": group.allowed, "accepted_with": group.accepted_with, "count": group.count,
             "seeds": group.seeds, "requests": len(group.shortest.steps) if group.shortest else None,
             "kept": group.kept and group.kept[0], "story": group.story(), "verdict": group.first.verdict.kind,
             "byte": byte and byte.as_dictionary()}
 
 
-def write_json_lines(name, tally, found):
+def write_json_lines(name, tally, found, kinds):
     lines = [{"seed": one.seed, "accepted": not one.groups, "differences": [group.title() for group in one.groups],
               "seconds": round(one.seconds, 3)} for one in tally.judged]
     # neither accepted nor refused
     lines += [{"seed": seed, "accepted": None, "skipped": why} for _, seed, why in tally.skipped()]
     lines += [of_group(number, group) for number, group in enumerate(found, 1)]
+    lines += known.lines(kinds)
     files.write_text(name, "".join(json.dumps(clean(line)) + "\n" for line in lines))
 
 
@@ -187,14 +189,14 @@ def seeds_in_words(tally):
     return f"{numbers[0]} to {numbers[-1]}" if len(numbers) > 1 else ", ".join(map(str, numbers))
 
 
-def write(name, given, tally, found):
-    """A page if the name ends in .html, JUnit if it ends in .xml, else JSON lines."""
+def write(name, given, tally, found, kinds):
+    """A page if the name ends in .html, JUnit if it ends in .xml, else JSON lines, with the kinds that are known."""
     if name.endswith((".html", ".htm")):
         write_page(name, given, tally, found)
     elif name.endswith(".xml"):
         write_junit(name, tally, given.command)
     else:
-        write_json_lines(name, tally, found)
+        write_json_lines(name, tally, found, kinds)
 
 
 def junit_text(value):
@@ -240,15 +242,16 @@ def junit_case(played, group):
             + junit_text("\n".join(lines)) + "</failure>\n  </testcase>")
 
 
-# A session of more records is printed around what differs, so many before and behind; and the most signs of a line.
-WHOLE, AROUND, COLUMNS = 30, 6, 160
+# A session of more records is printed around what differs, so many before and behind; how many records are printed of
+# one that is to be shown whole; and the most signs of a line.
+WHOLE, AROUND, ALL, COLUMNS = 30, 6, 60, 160
 
 
-def session_lines(shown, texts):
+def session_lines(shown, texts, is_whole=False):
     """The lines of a session, `texts` as `sftpv3 show --full` prints them, a line for each record that is whole. Says
     of all that is left out that it is."""
     marked = sorted({place for place in (shown.request, shown.reply) if place is not None and place < len(texts)})
-    parts = exchanges.parts(exchanges.Session(shown.records), marked, WHOLE, AROUND)
+    parts = exchanges.parts(exchanges.Session(shown.records), marked, ALL if is_whole else WHOLE, AROUND)
     lines, again = [], shown.again
     for part in parts:
         if again is not None and first_of(part) >= again:

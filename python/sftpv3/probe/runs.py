@@ -9,8 +9,8 @@ from typing import List, Optional
 from sftpv3.codec import trees
 from sftpv3.page import document
 from sftpv3.peer import servers
-from sftpv3.probe import (below, features, groups, hints, lacking, lasting, limits, options, ownfiles, planner, plans,
-                          reports, restarts, sessions, shrinking, starting, together, verdicts)
+from sftpv3.probe import (below, features, groups, hints, known, lacking, lasting, leaks, limits, options, ownfiles,
+                          planner, plans, reports, restarts, sessions, shrinking, starting, together, verdicts)
 from sftpv3.probe.sessions import NotStarted
 from sftpv3.system import program
 from sftpv3.walk import bounds
@@ -123,6 +123,7 @@ class Plan:
             played.requests = session.asked() + session.unasked
         played.unjudged = judged.unjudged + session.unasked
         played.ownerless = judged.ownerless
+        played.memory = max(played.memory, leaks.memory(session))
 
     def ends_alike(self, session):
         """Whether the server ended behind the same number of requests often enough."""
@@ -149,6 +150,9 @@ class Run:
         options.can_write("--keep", given.keep)
         if given.report:
             options.can_write("--report", given.report)
+        self.known = known.kinds_in(given.known) if given.known else {}
+        if given.last_failed:
+            given.seeds = known.last_failed(given)
         usual = starting.usual if given.look_first is None else starting.few
         self.tree = options.read("--tree", given.tree, trees.get) if given.tree else \
             starting.without(usual(), given.skip)
@@ -237,7 +241,7 @@ class Run:
 
     def planned(self, seed, skip):
         """The steps of a seed, and those that look, where that can be, at what they leave."""
-        steps = planner.plan(seed, self.tree, self.given.requests, skip)
+        steps = planner.plan(seed, self.tree, self.given.requests or options.REQUESTS, skip)
         if features.TOGETHER in self.given.also:
             steps = together.dealt(steps, seed)
         return lasting.lasting(steps, self.tree, skip) if self.again.is_wanted else steps
@@ -251,9 +255,19 @@ class Run:
                 why = [str(outcome.not_started), hints.beside(self.pool.jobs)]
                 raise NotStarted("\n".join(filter(None, why)))
             self.take(outcome)
-            if outcome.differences and self.given.first:
-                self.playing.set("--first")
+            if self.is_enough():
+                self.playing.set(self.enough())
                 break
+
+    def enough(self):
+        """The option by which there are enough differences, or None."""
+        most = self.given.max_kinds
+        if most and len(self.groups.by_key) >= most:
+            return "--max-kinds"
+        return "--first" if self.given.first and self.groups.by_key else None
+
+    def is_enough(self):
+        return self.enough() is not None
 
     def say(self):
         found, kinds = self.tally, len(self.groups.by_key)
@@ -264,11 +278,13 @@ class Run:
         """Puts the differences of a seed into their groups, and prints those that are new."""
         found = []
         for steps, difference in outcome.differences:
-            known = len(self.groups.by_key)
+            key, before = groups.key_of(difference), len(self.groups.by_key)
+            if key in self.known:
+                self.known[key] += 1
+                continue
             found.append((steps, self.groups.add(steps, difference), difference))
-            if len(self.groups.by_key) > known:
-                self.progress.clear()
-                program.say(f"seed {difference.seed}: {found[-1][1].title()}; expected: {difference.expected}")
+            if len(self.groups.by_key) > before:
+                self.told_of(found[-1][1], difference)
         if found:
             for (_, group, _), others in zip(found, groups.behind(found, self.tree)):
                 group.put_behind(others)
@@ -277,6 +293,11 @@ class Run:
         if outcome.played.ownerless and not self.tally.ownerless:
             program.tell(reports.NO_OWNERS)
         self.tally.add(outcome.played)
+
+    def told_of(self, group, difference):
+        """Prints a kind as soon as it is there."""
+        self.progress.clear()
+        program.say(f"seed {difference.seed}: {group.title()}; expected: {difference.expected}")
 
     def shrink(self):
         """Shrinks what may be shrunk in the time that is left, and keeps all."""
@@ -312,15 +333,16 @@ class Run:
             except OSError as error:
                 wrong.append(error)
         try:
+            known.keep_failed(self.given, self.tally.seeds_that_differ())
             if self.given.report:
-                reports.write(self.given.report, self.given, self.tally, found)
+                reports.write(self.given.report, self.given, self.tally, found, self.known)
         except OSError as error:
             wrong.append(error)
         return wrong
 
     def report(self):
         """Writes and prints what was found. It is printed also if it cannot be written, which is then an error."""
-        found = self.groups.all()
+        found = self.groups.reported()
         wrong = self.write(found)
         for group in found:
             reports.print_group(group.number, group)
@@ -332,7 +354,7 @@ class Run:
         if found or self.tally.left or not self.vain():
             if found:
                 program.say("")
-            program.say(reports.summary(self.tally, found) + self.again.told())
+            program.say(reports.summary(self.tally, found) + known.summary(self.known) + self.again.told())
         if wrong:
             raise wrong[0]
 
@@ -340,7 +362,9 @@ class Run:
         """What to do otherwise in the next run."""
         budget = None if self.until.is_set() else hints.of_budget(found, self.given.budget)
         start = hints.of_start(found, self.pool.jobs)
-        return [line for line in (*hints.advice(found, self.auditor), start, self.root.advice(), budget) if line]
+        memory = leaks.advice(self.tally.played)
+        known = hints.advice(found, self.auditor)
+        return [line for line in (*known, start, self.root.advice(), memory, budget) if line]
 
     def run(self):
         """Gives the exit status."""

@@ -6,7 +6,7 @@ from dataclasses import dataclass, field
 from typing import List, Optional, Tuple
 
 from sftpv3 import codec
-from sftpv3.peer import pieces, servers
+from sftpv3.peer import pieces, resources, servers
 from sftpv3.peer.servers import OPENING, TIMEOUT, WINDOW, NotStarted, Stopped, is_crash
 from sftpv3.probe import plans
 from sftpv3.walk import bounds
@@ -46,6 +46,8 @@ class Session:
     is_together: bool = False
     # The place of the first record once the server was started again on the same files, or None if it was not.
     again: Optional[int] = None
+    # What the server took of the system behind VERSION, and once each request had its reply; None if nobody knows.
+    taken: Optional[Tuple[resources.Usage, resources.Usage]] = None
 
     def transcript(self):
         return codec.put_records(self.records)
@@ -155,7 +157,11 @@ class Player:
 
     def play(self):
         self.opening()
+        process = self.running.process.pid
+        before = resources.usage(process)
         self.run()
+        after = resources.usage(process) if before and not self.session.end else None
+        self.session.taken = (before, after) if after else None
 
     def run(self):
         """Asks all that waits, until each request has its reply."""

@@ -355,7 +355,7 @@ def crowd_of(count):
         place, first = p.blank(b"crowd"), p.blank(b"first")
         yield p.ask("MKDIR", place, {})
         yield from upload(p, first, Content(p.random, 100))
-        paths = [place + b"/%04d" % number for number in range(count)]
+        paths = [place + b"/%04d" % number + LONG * (count > KEYS) for number in range(count)]
         for path in paths:
             yield from making(p, path, first)
         yield from listing(p, place, count)
@@ -371,8 +371,9 @@ def crowd_of(count):
     return crowd
 
 
-# How many keys a store of objects lists at a time: a directory of more names gets another name, too.
-KEYS = 1000
+# How many keys a store of objects lists at a time: a directory of more names gets another name, too. Its names end so
+# that no packet has room for all of them.
+KEYS, LONG = 1000, b"-of-a-directory-with-many"
 
 # How many names the directories have that lose some while they are listed, and how many at most. Servers give 32 names
 # at a time, 100 or 128: what goes has to be among those that are still to be given.

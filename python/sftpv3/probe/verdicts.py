@@ -9,7 +9,7 @@ from typing import Dict, List, Optional, Tuple
 
 from sftpv3 import codec
 from sftpv3.peer import programs, servers
-from sftpv3.probe import groups, lacking, set_times
+from sftpv3.probe import groups, lacking, leaks, set_times
 from sftpv3.probe.sessions import Session, Stopped
 
 # The most differences of a session that are told apart: each takes an audit more, and a session may have thousands.
@@ -199,6 +199,7 @@ def judge(auditor, tree_file, session, seed=0, stop=None):
     judged.differences += of_times(session, seed, auditor.lacks.has_access_times())
     if session.crashed():
         judged.differences.append(of_crash(session, seed))
+    judged.differences += of_leak(session, seed)
     return judged
 
 
@@ -217,6 +218,16 @@ def of_crash(session, seed):
     verdict = Verdict(False, found, None, "Ended", {"expected": "an end without a crash", "found": found})
     return Difference(seed, None, "the end of the input", verdict, session.records, session, None, None,
                       session.again)
+
+
+def of_leak(session, seed):
+    """The difference of a server that keeps descriptors which nothing open needs."""
+    found = leaks.descriptors(session)
+    if found is None:
+        return
+    expected = "no more descriptors than before the session and what is open"
+    verdict = Verdict(False, f"LEAK: {found}", None, "Leak", {"expected": expected, "found": found})
+    yield Difference(seed, None, "LEAK", verdict, session.records, session, None, None, session.again)
 
 
 def concerned(records, verdict):

@@ -1,5 +1,6 @@
 """What clients do at once on one folder: each workload is a function of a client, of its number, of pseudorandom
-choices and of the count of requests. Paths are below the folder where the server starts."""
+choices and of the count of requests. Paths are below the folder that the clients share. A client has `ask`, `ask_all`
+and `handle`, and counts what it asked."""
 from __future__ import annotations
 
 from sftpv3.codec import APPEND, CREAT, EXCL, READ, TRUNC, WRITE
@@ -27,6 +28,19 @@ def use_file(client, path, flags, requests):
         for name, *fields in requests:
             client.ask(name, handle, *fields)
         client.ask("CLOSE", handle)
+
+
+def opened(client, path, flags, count):
+    """A handle of a file. Where none is given, there is nothing else to be asked."""
+    handle = None
+    while handle is None and client.asked < count:
+        handle = client.handle("OPEN", path, flags, {})
+    return handle
+
+
+def size_in(reply):
+    """The size in a reply, or 0."""
+    return reply.fields[0].get("size", 0) if reply.name == "ATTRS" else 0
 
 
 def disjoint(client, number, choice, count):
@@ -78,20 +92,19 @@ def rename(client, number, choice, count):
 
 
 def append(client, number, choice, count):
-    handle = client.handle("OPEN", b"log", NEW | APPEND, {})
-    size = 0
+    handle, size = opened(client, b"log", NEW | APPEND, count), 0
     while client.asked < count:
         act = choice.randrange(6)
         if act < 3:
             client.ask("WRITE", handle, 0, payload(number, client.asked, 16 + choice.randrange(16)))
         elif act == 3:
-            size = client.ask("FSTAT", handle).fields[0]["size"]
+            size = size_in(client.ask("FSTAT", handle))
         else:
             client.ask("READ", handle, max(0, size - 200 - choice.randrange(100)), 400)
 
 
 def ranges(client, number, choice, count):
-    handle = client.handle("OPEN", b"file", NEW, {})
+    handle = opened(client, b"file", NEW, count)
     while client.asked < count:
         place = 50 * choice.randrange(30)
         if choice.randrange(2):
@@ -162,7 +175,7 @@ def setstat(client, number, choice, count):
 
 
 def big(client, number, choice, count):
-    handle = client.handle("OPEN", b"big", NEW, {})
+    handle = opened(client, b"big", NEW, count)
     while client.asked < count:
         place = 16384 * choice.randrange(6)
         if choice.randrange(2):
@@ -172,7 +185,7 @@ def big(client, number, choice, count):
 
 
 def piped(client, number, choice, count):
-    handle = client.handle("OPEN", b"shared", NEW, {})
+    handle = opened(client, b"shared", NEW, count)
     while client.asked < count:
         client.ask_all([one_piped(number, client.asked + at, choice, handle) for at in range(choice.randrange(2, 9))])
 
