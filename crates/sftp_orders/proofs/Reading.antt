@@ -1,11 +1,17 @@
 -- What is read of names and of places, step by step.
-use Rattle.std.proofs.Common.{◌≡◌, ℕ, zero, suc, ◌-◌, ◌<◌, ◌≤◌, List, [], ◌∷◌, ◌++◌, length, drop, refl, sym, ap, ◌∙◌, arith, append_assoc}
-use Rattle.std.specs.Prelude.{Result, Ok, Err, Option, Some}
+use Rattle.std.proofs.Common.{◌≡◌, ℕ, zero, suc, ◌+◌, ◌-◌, ◌^◌, ◌<◌, ◌≤◌, List, [], ◌∷◌, ◌++◌, length, drop, flat_map, refl, sym, ap, ◌∙◌, arith, append_assoc}
+use Rattle.std.specs.Prelude.{Result, Ok, Err, Option, Some, None, nat_lt, true, if◌then◌else◌, Bool, take}
+use Rattle.std.specs.Int.{w16, w32, from_be_bytes, to_be_bytes}
+use Rattle.std.proofs.lemmas.Bool.{le-ltb, lt-ltb, cond-true, cond-false}
 use Rattle.std.proofs.lemmas.List.{length-drop, length-append, append-nil}
+use Rattle.std.proofs.lemmas.Nat.{from_be_bytes-to_be_bytes_2, from_be_bytes-to_be_bytes_4}
+use Rattle.std.proofs.Math.Seq.{take-append_seam, drop-append_seam}
+use Rattle.sftp_strings.specs.Strings.{uint32, string}
 use Rattle.sftp_orders.specs.declared.errors.OrderError.{OrderError}
 use Rattle.sftp_orders.specs.declared.errors.OrderError.TheVariants.{Magic, Truncated, Name, Session, Part, NoMemory}
-use Rattle.sftp_orders.specs.Orders.{Names, names_in, name_at, prepend, followed, GivesNames}
-use Rattle.sftp_orders.specs.Orders.{places_in, places_within, place_at, behind, then_places, GivesPlaces}
+use Rattle.sftp_orders.specs.Orders.{Names, names_in, name_at, named, prepend, followed, GivesNames, number_at, bytes_of, string_at, may_follow}
+use Rattle.sftp_orders.specs.Orders.{places_in, places_within, place_at, place_text, placed, behind, then_places, GivesPlaces}
+use Rattle.sftp_orders.specs.Orders.{AreNames, ArePlaces, spelled, order_at, after_count, after_names, after_piece, with_places}
 
 -- ---- names
 
@@ -150,3 +156,67 @@ pub places_fault : (places now : List ℕ) (count number : ℕ) (rest : List ℕ
 places_fault places now count number rest error read kept lt is =
     gives_places error now read (kept ∙ ap (behind places) (places-front count number rest lt
     ∙ ap (λ found. then_places found (places_in count (suc number) (drop 4 rest))) is))
+
+-- ---- what is written is read
+
+number-read : (n : ℕ) (rest : List ℕ) → n < 2 ^ 32 → number_at (uint32 n ++ rest) ≡ Some (n, rest)
+number-read n rest fits =
+    let long = cond-false (nat_lt (length (uint32 n ++ rest)) 4) None (Some (from_be_bytes w32 (to_be_bytes w32 n), rest))
+    (le-ltb (length (uint32 n ++ rest)) 4 (omega arith)) in
+    long ∙ ap (λ (m : ℕ). Some (m, rest)) (from_be_bytes-to_be_bytes_4 n fits)
+
+string-read : (name rest : List ℕ) → length name < 2 ^ 32 → string_at (string name ++ rest) ≡ Some (name, rest)
+string-read name rest fits =
+    let size : length (name ++ rest) ≡ length name + length rest = length-append name rest in
+    let whole = cond-false (nat_lt (length (name ++ rest)) (length name)) None
+    (Some (take (length name) (name ++ rest), drop (length name) (name ++ rest)))
+    (le-ltb (length (name ++ rest)) (length name) (omega (arith, size))) in
+    ap bytes_of (number-read (length name) (name ++ rest) fits) ∙ whole
+    ∙ ap (λ (xs : List ℕ). Some (xs, drop (length name) (name ++ rest))) (take-append_seam name rest)
+    ∙ ap (λ (xs : List ℕ). Some (name, xs)) (drop-append_seam name rest)
+
+name-read : (number : ℕ) (last : Option (List ℕ)) (name rest : List ℕ) → length name < 2 ^ 32
+    → may_follow last name ≡ true → name_at number last (string name ++ rest) ≡ Ok (name, rest)
+name-read number last name rest fits follows =
+    ap (named number last) (string-read name rest fits)
+    ∙ ap (λ (b : Bool). if b then Ok (name, rest) else Err (Name number)) follows
+
+names-read : (number : ℕ) (last : Option (List ℕ)) (names : List (List ℕ)) (rest : List ℕ) → AreNames last names
+    → names_in (length names) number last (flat_map string names ++ rest) ≡ Ok (names, rest)
+unfolding names_in
+names-read number last [] rest are = refl
+names-read number last (name ∷ names) rest are =
+    let shape : flat_map string (name ∷ names) ++ rest ≡ string name ++ (flat_map string names ++ rest) =
+    append_assoc (string name) (flat_map string names) rest in
+    ap (λ (bytes : List ℕ). names_in (suc (length names)) number last bytes) shape
+    ∙ ap (λ read. followed read (λ name rest. names_in (length names) (suc number) (Some name) rest))
+    (name-read number last name (flat_map string names ++ rest) are.0 are.1)
+    ∙ ap (prepend (name ∷ [])) (names-read (suc number) (Some name) names rest are.2)
+
+place-read : (count number session : ℕ) (rest : List ℕ) → session < 2 ^ 16 → session < count
+    → place_at count number (place_text session ++ rest) ≡ Ok session
+place-read count number session rest fits there =
+    let read = from_be_bytes w16 (to_be_bytes w16 session) in
+    let long = cond-false (nat_lt (length (place_text session ++ rest)) 4) (Err (Truncated number))
+    (placed count number read 0) (le-ltb (length (place_text session ++ rest)) 4 (omega arith)) in
+    long ∙ ap (λ (n : ℕ). placed count number n 0) (from_be_bytes-to_be_bytes_2 session fits)
+    ∙ cond-true (nat_lt session count) (Ok session) (Err (Session number)) (lt-ltb session count there)
+
+places-read : (count number : ℕ) (places : List ℕ) → ArePlaces count places
+    → places_in count number (flat_map place_text places) ≡ Ok places
+places-read count number [] are = places-none count number
+places-read count number (session ∷ places) are =
+    places-front count number (place_text session ++ flat_map place_text places) (omega arith)
+    ∙ ap (λ found. then_places found (places_in count (suc number) (flat_map place_text places)))
+    (place-read count number session (flat_map place_text places) are.0 are.1)
+    ∙ ap (behind (session ∷ [])) (places-read count (suc number) places are.2)
+
+pub orders-read : (names : List (List ℕ)) (piece : ℕ) (places : List ℕ) → length names < 2 ^ 32 → piece < 2 ^ 32
+    → AreNames None names → ArePlaces (length names) places → order_at (spelled names piece places) ≡ Ok (names, places)
+orders-read names piece places few small are_names are_places =
+    let end = uint32 piece ++ flat_map place_text places in
+    let count = length names in
+    ap after_count (number-read count (flat_map string names ++ end) few)
+    ∙ ap (after_names count) (names-read 1 None names end are_names)
+    ∙ ap (after_piece count names) (number-read piece (flat_map place_text places) small)
+    ∙ ap (with_places names) (places-read count 1 places are_places)

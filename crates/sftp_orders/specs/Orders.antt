@@ -1,5 +1,5 @@
 -- Files of orders: how they are spelled, and what bytes are read as. This profile's own.
-use Rattle.std.specs.Prelude.{◌≡◌, ◌==◌, not, nat_lt, bytes_eq, ℕ, zero, suc, Bool, true, false, if◌then◌else◌}
+use Rattle.std.specs.Prelude.{◌≡◌, ◌==◌, ◌<◌, ◌^◌, not, nat_lt, bytes_eq, ℕ, zero, suc, Bool, true, false, if◌then◌else◌}
 use Rattle.std.specs.Prelude.{List, [], ◌∷◌, ◌++◌, length, take, drop, codes, Result, Ok, Err, Option, Some, None}
 use Rattle.std.specs.Int.{w16, w32, to_be_bytes, from_be_bytes}
 use Rattle.std.specs.List.{flat_map}
@@ -135,6 +135,19 @@ after_count (Some found) = after_names found.0 (names_in found.0 1 None found.1)
 -- the names of the sessions and, place by place, the number of the session, or the first fault of the bytes
 abbrev pub order_at : List ℕ → Result (List (List ℕ) × List ℕ) OrderError
 order_at bytes = if bytes_eq (take 8 bytes) opening then after_count (number_at (drop 8 bytes)) else Err Magic
+
+-- ---- what can be written
+
+-- each name may follow the one before it, and has no more bytes than a string may have
+abbrev pub AreNames : Option (List ℕ) → List (List ℕ) → Type 0
+AreNames last [] = Unit {0}
+AreNames last (name ∷ names) =
+    (length name < 2 ^ 32) × (may_follow last name ≡ true) × AreNames (Some name) names
+
+-- each place is that of one of so many sessions
+abbrev pub ArePlaces : ℕ → List ℕ → Type 0
+ArePlaces count [] = Unit {0}
+ArePlaces count (session ∷ places) = (session < 2 ^ 16) × (session < count) × ArePlaces count places
 
 -- ---- what the code gives, unless memory runs out
 

@@ -4,6 +4,8 @@
 mod errors;
 mod files;
 mod fronts;
+mod laws;
 
 pub use errors::OrderError;
 pub use files::{Order, read_order};
+pub use laws::orders_are_read;
