@@ -1,5 +1,5 @@
 -- What is kept of the events so far goes on with each event, and what is refused has its reason.
-use Rattle.sftp_audit.proofs.Imports.{◌≡◌, ℕ, ◌+◌, ◌<◌, ◌≤◌, Bool, true, false, List, [], ◌∷◌, ◌++◌, length, Option, Some, None, refl, sym, ap, subst, ◌∙◌, append_assoc, append-nil, arith, map, map-append, is_some, option_map, IsTrue}
+use Rattle.sftp_audit.proofs.Imports.{◌≡◌, ℕ, ◌<◌, true, false, List, [], ◌∷◌, ◌++◌, length, Option, None, refl, sym, ap, subst, ◌∙◌, append_assoc, append-nil, arith, map-append, option_map}
 use Rattle.sftp_audit.proofs.Imports.{length-map, length-append}
 use Rattle.std.specs.List.{AllByRecursion}
 use Rattle.sftp_packets.specs.declared.packets.Request.{Request}
@@ -7,20 +7,20 @@ use Rattle.sftp_packets.specs.declared.packets.Reply.{Reply}
 use Rattle.sftp_streams.specs.Streams.{one_more}
 use Rattle.sftp_transcript.specs.declared.events.Event.{Event}
 use Rattle.sftp_transcript.specs.declared.events.Event.TheVariants.{Asked, Replied}
-use Rattle.sftp_transcript.specs.Explained.{closed, window, Run, leading_pairs, exchanges_of as events_exchanges, in_window, turn_after}
-use Rattle.sftp_transcript.specs.Sound.{Sound, InTurn, IsWaiting, first_number, number_after_events}
+use Rattle.sftp_transcript.specs.Explained.{window, Run, leading_pairs, exchanges_of as events_exchanges, in_window, turn_after}
+use Rattle.sftp_transcript.specs.Sound.{first_number, number_after_events}
 use Rattle.sftp_together.specs.declared.exchanges.TimedExchange.{TimedExchange}
 use Rattle.sftp_together.specs.declared.exchanges.Stamp.{Stamp}
 use Rattle.sftp_audit.specs.declared.errors.Refusal.{Refusal}
 use Rattle.sftp_audit.specs.declared.errors.Refusal.TheVariants as refusals
 use Rattle.sftp_audit.specs.declared.exchanges.Exchange.{Exchange}
 use Rattle.sftp_audit.specs.declared.exchanges.RecordedReply.{RecordedReply}
-use Rattle.sftp_audit.specs.Auditor.{Audited, StandsFor, Refuses}
-use Rattle.sftp_audit.specs.Exchanges.{recorded_exchanges, is_answered, AreAnswered, with_reply}
+use Rattle.sftp_audit.specs.Auditor.{Audited, StandsFor}
+use Rattle.sftp_audit.specs.Exchanges.{recorded_exchanges, AreAnswered, with_reply}
 unfoldable use Rattle.sftp_audit.specs.Exchanges.{unsettled, is_awaited, exchanges_from}
 unfoldable use Rattle.sftp_audit.specs.Trees.{AreApart}
 use Rattle.sftp_audit.specs.Trees.{RefusesRequest, RefusesReply, starts_answered}
-use Rattle.sftp_audit.proofs.auditing.{recorded-asked, recorded-replied, unsettled-answered, unsettled-asked, with_reply-append, with_reply-answered, is_awaited-unsettled, unsettled-here, first_unsettled}
+use Rattle.sftp_audit.proofs.auditing.{recorded-asked, recorded-replied, unsettled-answered, unsettled-asked, with_reply-append, with_reply-answered, is_awaited-unsettled, unsettled-here}
 use Rattle.sftp_audit.proofs.auditing.Turns.{in_turn-asked, in_turn-replied, window-asked, window-replied, waits_if_open, closed_if_none}
 use Rattle.sftp_audit.proofs.auditing.Standing.{refused-asked, refused-replied}
 use Rattle.sftp_sets.specs.declared.waiting.Stamped.{Stamped}

@@ -1,18 +1,17 @@
 -- Where a request waits among those that are kept, and what a reply does there.
-use Rattle.std.proofs.Common.{◌≡◌, ◌==◌, not, ℕ, zero, suc, ◌+◌, ◌<◌, ◌≤◌, Bool, true, false, List, [], ◌∷◌, ◌++◌, length, drop, get_or, set, map, slice_get, refl, sym, ap, ◌∙◌, arith, inl, inr, cond}
+use Rattle.std.proofs.Common.{◌≡◌, ℕ, zero, suc, ◌+◌, ◌<◌, ◌≤◌, true, false, List, [], ◌∷◌, ◌++◌, length, drop, get_or, set, slice_get, refl, sym, ap, ◌∙◌, arith}
 use Rattle.std.specs.Prelude.{Option, Some, None}
 use Rattle.std.specs.Option.{option_map}
-use Rattle.std.specs.List.{AllByRecursion}
 use Rattle.std.proofs.lemmas.Bool.{cases_Bool, or_parts}
 use Rattle.std.proofs.lemmas.List.{drop-map, drop_more, map-set, length-map}
-use Rattle.std.proofs.lemmas.Option.{slice_get-map, slice_get_read}
+use Rattle.std.proofs.lemmas.Option.{slice_get-map}
 use Rattle.sftp_audit.specs.declared.exchanges.Exchange.{Exchange}
 use Rattle.sftp_audit.specs.declared.exchanges.RecordedReply.{RecordedReply}
 unfoldable use Rattle.sftp_audit.specs.Exchanges.{is_awaited}
-use Rattle.sftp_audit.specs.Exchanges.{waits_for, is_answered, with_reply, answered_by}
+use Rattle.sftp_audit.specs.Exchanges.{waits_for, with_reply}
 unfoldable use Rattle.sftp_audit.specs.Trees.{AreApart, place_of}
 use Rattle.sftp_audit.proofs.auditing.{is_awaited-append, is_awaited-replied, flipped}
-use Rattle.sftp_audit.proofs.auditing.Places.{stored, place_of-within, place_of-open}
+use Rattle.sftp_audit.proofs.auditing.Places.{stored, place_of-within}
 use Rattle.sftp_sets.specs.declared.waiting.Stamped.{Stamped}
 use Rattle.sftp_sets.specs.declared.waiting.Waiting.{Waiting}
 use Rattle.sftp_sets.specs.Collecting.{exchange_of, exchanges_of, reply_of, IsTimely, AreWaitingTimely}

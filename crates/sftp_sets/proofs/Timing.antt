@@ -1,6 +1,5 @@
 -- Events with times, and what is read of a session.
-use Rattle.sftp_audit.proofs.Imports.{◌≡◌, ◌==◌, ℕ, ◌+◌, ◌<◌, ◌≤◌, Bool, true, false, if◌then◌else◌, List, [], ◌∷◌, ◌++◌, length, Option, Some, None, refl, sym, ap, subst, ◌∙◌, append_assoc, arith, map, option_map, slice_get, Ok, Err, Result, IsTrue, cases_Bool, inl, inr}
-use Rattle.std.specs.List.{AllByRecursion}
+use Rattle.sftp_audit.proofs.Imports.{◌≡◌, ◌==◌, ℕ, ◌+◌, ◌<◌, ◌≤◌, Bool, true, false, if◌then◌else◌, List, [], ◌∷◌, ◌++◌, length, Option, Some, None, refl, sym, ap, subst, ◌∙◌, arith, map, option_map, slice_get, Ok, Err, Result, IsTrue}
 use Rattle.std.specs.Result.{IfErr}
 use Rattle.sftp_packets.specs.declared.packets.Request.{Request}
 use Rattle.sftp_packets.specs.declared.packets.Reply.{Reply}
@@ -19,7 +18,7 @@ use Rattle.sftp_tree.specs.Picture.{blank}
 use Rattle.sftp_together.specs.declared.exchanges.TimedExchange.{TimedExchange}
 use Rattle.sftp_together.specs.declared.exchanges.Stamp.{Stamp}
 unfoldable use Rattle.sftp_together.specs.Sets.{next_timed, timed_from}
-use Rattle.sftp_together.specs.Sets.{TimedEvent, event_of, IsWhole, timed_exchanges, answered_first}
+use Rattle.sftp_together.specs.Sets.{TimedEvent, event_of, IsWhole, answered_first}
 use Rattle.sftp_audit.specs.declared.errors.Refusal.{Refusal}
 use Rattle.sftp_audit.specs.declared.errors.Refusal.TheVariants as refusals
 use Rattle.sftp_audit.specs.declared.errors.AuditError.{AuditError}
@@ -28,7 +27,6 @@ use Rattle.sftp_audit.specs.declared.exchanges.Exchange.{Exchange}
 use Rattle.sftp_audit.specs.declared.exchanges.RecordedReply.{RecordedReply}
 unfoldable use Rattle.sftp_audit.specs.Exchanges.{next_recorded, exchanges_from}
 use Rattle.sftp_audit.specs.Exchanges.{recorded_exchanges}
-use Rattle.sftp_audit.specs.Auditor.{LacksReply, Refuses}
 use Rattle.sftp_audit.specs.Audit.{IsNew, IsNoJudgement, StopsFeed, IsPlain, WasFed, request_count, error_of_transcript, error_of_session}
 use Rattle.sftp_audit.specs.Trees.{AccountsFrom, IsFirstFaultFrom}
 use Rattle.sftp_audit.proofs.steps.{HasOneEnd}
@@ -40,7 +38,7 @@ use Rattle.sftp_sets.specs.declared.waiting.Waiting.{Waiting}
 use Rattle.sftp_sets.specs.declared.errors.SessionError.{SessionError}
 use Rattle.sftp_sets.specs.declared.errors.SessionError.TheVariants as errors
 unfoldable use Rattle.sftp_sets.specs.Sessions.{timed_in}
-use Rattle.sftp_sets.specs.Sessions.{time_of, timed, HasTimes, IsSession, IsFirstFault, IsUnread, any}
+use Rattle.sftp_sets.specs.Sessions.{time_of, timed, IsSession, IsUnread, any}
 use Rattle.sftp_sets.specs.Collecting.{Holds, WasRead, IsRead, exchange_of, exchanges_of, untimed, untimed_all, AreTimely, Notes, HasReason}
 use Rattle.sftp_sets.proofs.Holding.{run-any, kept_as, stands, holds-start}
 

@@ -1,5 +1,5 @@
 -- The sessions of a set as files: the transcript of each, and the times of its records. This profile's own.
-use Rattle.std.specs.Prelude.{◌≡◌, ◌+◌, ◌-◌, ◌≤◌, ◌<◌, ⊤, min, ℕ, List, [], ◌∷◌, length, map, get_or}
+use Rattle.std.specs.Prelude.{◌≡◌, ◌+◌, ◌-◌, ◌≤◌, ◌<◌, min, ℕ, List, [], ◌∷◌, length, map, get_or}
 use Rattle.std.specs.List.{AllByRecursion}
 use Rattle.sftp_streams.specs.Streams.{one_more, largest_count}
 use Rattle.sftp_transcript.specs.declared.events.Event.{Event}

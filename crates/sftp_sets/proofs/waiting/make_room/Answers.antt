@@ -1,6 +1,5 @@
 -- Whether a request of the id waits is whether it has a place.
-use Rattle.sftp_audit.proofs.Imports.{◌≡◌, true, false, refl, sym, ap, ◌∙◌, arith, is_some, length-map}
-use Rattle.std.proofs.Common.{rules}
+use Rattle.sftp_audit.proofs.Imports.{refl, sym, ap, ◌∙◌, arith, is_some, length-map}
 use Rattle.sftp_audit.proofs.auditing.Places.{place_of-open}
 use Rattle.sftp_sets.specs.Collecting.{exchange_of, exchanges_of}
 use Rattle.sftp_sets.proofs.waiting.make_room.Goals as goal

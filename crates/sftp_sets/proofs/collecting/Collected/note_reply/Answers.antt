@@ -1,5 +1,5 @@
 -- A reply is taken and what is answered is settled, or the reply is refused.
-use Rattle.std.proofs.Common.{rules, refl}
+use Rattle.std.proofs.Common.{rules}
 use Rattle.std.proofs.lemmas.Result.{err_from_is_err_and}
 use Rattle.sftp_sets.proofs.Holding.{notes-replied, refused-reply}
 use Rattle.sftp_sets.proofs.collecting.Collected.note_reply.Goals as goal
