@@ -1,14 +1,16 @@
 -- What is read of entries, and that it is what was written.
-use Rattle.std.proofs.Common.{◌≡◌, ℕ, zero, suc, ◌+◌, ◌^◌, ◌<◌, ◌≤◌, List, [], ◌∷◌, ◌++◌, length, take, drop, refl, sym, ap, ◌∙◌, arith, append_assoc}
-use Rattle.std.specs.Prelude.{Result, Ok, Err, nat_lt}
+use Rattle.std.proofs.Common.{◌≡◌, ℕ, zero, suc, ◌^◌, ◌<◌, ◌≤◌, List, [], ◌∷◌, ◌++◌, length, drop, refl, sym, ap, ◌∙◌, arith, append_assoc}
+use Rattle.std.specs.Prelude.{Result, Ok, Err, nat_lt, Option, Some, None}
+use Rattle.sftp_times.specs.declared.entries.Boot.{Boot}
+use Rattle.sftp_times.specs.declared.entries.Beginning.{Beginning}
 use Rattle.std.specs.Int.{w64, from_be_bytes, to_be_bytes}
 use Rattle.std.specs.List.{AllByRecursion}
-use Rattle.std.proofs.lemmas.Bool.{le-ltb, lt-ltb, cond-true, cond-false}
+use Rattle.std.proofs.lemmas.Bool.{le-ltb, cond-false}
 use Rattle.std.proofs.lemmas.List.{length-drop, length-append, append-nil}
 use Rattle.std.proofs.lemmas.Nat.{from_be_bytes-to_be_bytes_8}
 use Rattle.sftp_times.specs.declared.errors.TimesError.{TimesError}
 use Rattle.sftp_times.specs.declared.errors.TimesError.TheVariants.{Magic, Short, Order, NoMemory}
-use Rattle.sftp_times.specs.Times.{Gives, Rises, entry_at, timely, prepend, followed, entries_within, entries_in, entries_text, spelled, times_at, dated, beginning_at}
+use Rattle.sftp_times.specs.Times.{Gives, Rises, entry_at, timely, prepend, followed, entries_within, entries_in, entries_text, spelled, times_at, followed_by, dated, booted, begun, beginning_at, Fits, FitsBoot}
 
 -- ---- prepending
 
@@ -98,11 +100,22 @@ entries-read number last (time ∷ times) fits rises =
     let next = entries-next number last time (to_be_bytes w64 time ++ entries_text times) (omega arith) first in
     next ∙ ap (prepend (time ∷ [])) (entries-read (suc number) time times fits.1 rises.1)
 
-beginning-read : (date : ℕ) (rest : List ℕ) → date < 2 ^ 64 → beginning_at (spelled date rest) ≡ Ok date
-beginning-read date rest fits =
-    let long = cond-false (nat_lt (length (spelled date rest)) 16) _ (Ok (from_be_bytes w64 (to_be_bytes w64 date))) (le-ltb (length (spelled date rest)) 16 (omega arith)) in
-    long ∙ ap Ok (from_be_bytes-to_be_bytes_8 date fits)
+dated-read : (date : ℕ) → date < 2 ^ 64 → (rest : List ℕ) → beginning_at (dated date ++ rest) ≡ Ok (record { date = date; boot = None })
+dated-read date fits rest =
+    let long = cond-false (nat_lt (length (to_be_bytes w64 date ++ rest)) 8) _ (Ok (record { date = from_be_bytes w64 (to_be_bytes w64 date); boot = None })) (le-ltb (length (to_be_bytes w64 date ++ rest)) 8 (omega arith)) in
+    long ∙ ap (λ n. Ok (record { date = n; boot = None })) (from_be_bytes-to_be_bytes_8 date fits)
 
-pub times-read : (date : ℕ) (times : List ℕ) → date < 2 ^ 64 → AllByRecursion (λ time. time < 2 ^ 64) times → Rises 0 times → times_at (spelled date times) ≡ Ok (date, times)
-times-read date times fits all rises =
-    ap (λ read. dated read (entries_in 1 0 (entries_text times))) (beginning-read date times fits) ∙ ap (dated (Ok date)) (entries-read 1 0 times all rises)
+booted-read : (date : ℕ) (boot : Boot) → date < 2 ^ 64 → FitsBoot (Some boot) → (rest : List ℕ) → beginning_at (booted date boot ++ rest) ≡ Ok (record { date = date; boot = Some boot })
+booted-read date boot fits others rest =
+    let body = to_be_bytes w64 boot.high ++ (to_be_bytes w64 boot.low ++ (to_be_bytes w64 date ++ (to_be_bytes w64 boot.zero ++ rest))) in
+    let long = cond-false (nat_lt (length body) 32) _ (Ok (record { date = from_be_bytes w64 (to_be_bytes w64 date); boot = Some (record { high = from_be_bytes w64 (to_be_bytes w64 boot.high); low = from_be_bytes w64 (to_be_bytes w64 boot.low); zero = from_be_bytes w64 (to_be_bytes w64 boot.zero) }) })) (le-ltb (length body) 32 (omega arith)) in
+    long ∙ rw (from_be_bytes-to_be_bytes_8 date fits, from_be_bytes-to_be_bytes_8 boot.high others.0, from_be_bytes-to_be_bytes_8 boot.low others.1, from_be_bytes-to_be_bytes_8 boot.zero others.2) refl
+
+times-read-by : (date : ℕ) (boot : Option Boot) (times : List ℕ) → date < 2 ^ 64 → FitsBoot boot → AllByRecursion (λ time. time < 2 ^ 64) times → Rises 0 times → times_at (begun date boot ++ entries_text times) ≡ Ok (record { date = date; boot = boot }, times)
+times-read-by date None times fits other all rises =
+    ap (λ read. followed_by read (entries_in 1 0 (entries_text times))) (dated-read date fits (entries_text times)) ∙ ap (followed_by (Ok (record { date = date; boot = None }))) (entries-read 1 0 times all rises)
+times-read-by date (Some boot) times fits others all rises =
+    ap (λ read. followed_by read (entries_in 1 0 (entries_text times))) (booted-read date boot fits others (entries_text times)) ∙ ap (followed_by (Ok (record { date = date; boot = Some boot }))) (entries-read 1 0 times all rises)
+
+pub times-read : (first : Beginning) (times : List ℕ) → Fits first → AllByRecursion (λ time. time < 2 ^ 64) times → Rises 0 times → times_at (spelled first times) ≡ Ok (first, times)
+times-read first times fits all rises = times-read-by first.date first.boot times fits.0 fits.1 all rises

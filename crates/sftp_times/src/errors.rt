@@ -6,10 +6,10 @@ use std::alloc::{AllocError, AllocFailed};
 use thiserror::Error;
 
 /// The first fault of a file of times, and the number of its entry. Entries count from 1, as the records of the
-/// transcript do; the opening and the date are entry 0.
+/// transcript do; what comes before them is entry 0.
 #[derive(Clone, Copy, Debug, PartialEq, Eq, Error)]
 pub enum TimesError {
-    /// The bytes do not begin with the opening and a whole date.
+    /// The bytes do not begin with an opening and, whole, what follows it before the entries.
     #[error("entry 0: Magic")]
     Magic,
     /// The bytes end inside an entry.

@@ -1,16 +1,19 @@
 //! Whole files of times.
-ghost use Rattle.std.specs.Prelude.{◌≡◌, ◌++◌, [], drop, OnOk};
+ghost use Rattle.std.specs.Prelude.{◌≡◌, ◌++◌, [], OnOk};
 ghost use Rattle.sftp_times.specs.Times.{Gives, GivesTimes, entries_in, entries_text, spelled, times_at};
 
-use crate::entries::{BEGINNING, ENTRY, put_beginning, put_entry, read_beginning, read_entry};
+use crate::entries::{
+    Beginning, ENTRY, beginning_length, behind, put_beginning, put_entry, read_beginning,
+    read_entry,
+};
 use crate::errors::TimesError;
 use std::alloc::{AllocError, Global};
 
 /// The times of a session.
 #[derive(Debug, Drop)]
 pub struct Times {
-    /// The date of the start: nanoseconds from 1970 on.
-    pub date: u64,
+    /// What comes before the entries: when the session started.
+    pub beginning: Beginning,
     /// When each record was there: nanoseconds from the start on, none less than the one before.
     pub entries: Vec<u64>,
 }
@@ -23,10 +26,10 @@ pub struct Times {
 pub fn read_times(alloc: Global, bytes: &[u8]) -> Result<Times, TimesError>
     ensures { GivesTimes result (times_at bytes.now) }
 {
-    let date = read_beginning(bytes)?;
+    let beginning = read_beginning(bytes)?;
     let mut entries = Vec::new(alloc);
-    match read_entries(bytes.get(BEGINNING..).unwrap_or(&[]), &mut entries) {
-        Ok(()) => Ok(Times { date, entries }),
+    match read_entries(behind(beginning_length(bytes), bytes), &mut entries) {
+        Ok(()) => Ok(Times { beginning, entries }),
         Err(error) => {
             drop(entries);
             Err(error)
@@ -45,17 +48,10 @@ fn read_entries(bytes: &[u8], entries: &mut Vec<u64>) -> Result<(), TimesError>
     'entries: while !rest.is_empty() {
         let time = read_entry(entries.len() as u64 + 1, last, rest)?;
         entries.push(time)?;
-        rest = behind_entry(rest);
+        rest = behind(ENTRY, rest);
         last = time;
     }
     Ok(())
-}
-
-/// What follows the first entry.
-fn behind_entry(bytes: &[u8]) -> &[u8]
-    ensures { result.now ≡ drop 8 bytes.now }
-{
-    bytes.get(ENTRY..).unwrap_or(&[])
 }
 
 /// Appends the bytes of a file of times.
@@ -64,9 +60,9 @@ fn behind_entry(bytes: &[u8]) -> &[u8]
 ///
 /// `AllocError` if memory runs out.
 pub fn write_times(times: &Times, bytes: &mut Vec<u8>) -> Result<(), AllocError>
-    ensures { OnOk result (bytes.new.items ≡ bytes.old.items ++ spelled times.now.date times.now.entries.items) }
+    ensures { OnOk result (bytes.new.items ≡ bytes.old.items ++ spelled times.now.beginning times.now.entries.items) }
 {
-    put_beginning(times.date, bytes)?;
+    put_beginning(&times.beginning, bytes)?;
     put_entries(times.entries.as_slice(), bytes)
 }
 

@@ -6,7 +6,10 @@ mod errors;
 mod files;
 mod laws;
 
-pub use entries::{BEGINNING, ENTRY, put_beginning, put_entry, read_beginning, read_entry};
+pub use entries::{
+    Beginning, Boot, ENTRY, OPENING_LENGTH, beginning_length, put_beginning, put_entry,
+    read_beginning, read_entry,
+};
 pub use errors::TimesError;
 pub use files::{Times, read_times, write_times};
 pub use laws::times_are_read;

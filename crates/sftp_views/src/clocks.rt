@@ -1,7 +1,7 @@
 //! The times of records, read entry by entry.
 
 use crate::errors::ViewError;
-use sftp_times::{BEGINNING, ENTRY, read_beginning, read_entry};
+use sftp_times::{ENTRY, OPENING_LENGTH, beginning_length, read_beginning, read_entry};
 use std::alloc::Global;
 use std::io::Read;
 
@@ -35,7 +35,9 @@ impl<C: Read + Drop> Clock<C> {
         if !self.has_file() {
             return Ok(());
         }
-        self.read(BEGINNING)?;
+        self.read(OPENING_LENGTH)?;
+        let length = beginning_length(self.bytes.as_slice());
+        self.read_on(length.saturating_sub(OPENING_LENGTH))?;
         read_beginning(self.bytes.as_slice())?;
         Ok(())
     }
@@ -62,6 +64,11 @@ impl<C: Read + Drop> Clock<C> {
     /// Reads the next bytes, as many as this or all that are left.
     fn read(&mut self, count: usize) -> Result<(), ViewError> {
         self.bytes.clear();
+        self.read_on(count)
+    }
+
+    /// Reads further bytes behind those that were read last, as many as this or all that are left.
+    fn read_on(&mut self, count: usize) -> Result<(), ViewError> {
         let Some(file) = &mut self.file else {
             return Ok(());
         };

@@ -39,7 +39,7 @@ def record_parser():
                         help="write the time of each record into FILE, made like a transcript")
     parser.add_argument("--boot-clock", action="store_true",
                         help="have --times write times that sftpv3-together can compare with those of other sessions "
-                             "of this machine (SFTPTM02), which `sftpv3 show` does not read yet")
+                             "of this machine (SFTPTM02)")
     parser.add_argument("--spool", metavar="SOCKET", help="record into the spool of sftpv3-recordd, without TRANSCRIPT")
     parser.add_argument("--log", metavar="FILE", help="append what is said to FILE, and the verdict of --audit")
     parser.add_argument("--syslog", action="store_true", help="say it to syslog, too")

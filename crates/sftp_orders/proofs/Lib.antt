@@ -1,0 +1,2 @@
+-- What is read of names and of places.
+pub mod Reading

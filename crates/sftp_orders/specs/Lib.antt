@@ -1,0 +1,2 @@
+-- Files of orders.
+pub mod Orders

@@ -1,0 +1,8 @@
+-- What is no session is not added.
+use Rattle.std.proofs.lemmas.Result.{err_from_is_err_and}
+use Rattle.sftp_sets.proofs.sets.SessionSet.add.Goals as goal
+
+pub returns-in_err-session-clause-refused : goal.returns-in_err-session-clause-refused
+returns-in_err-session-clause-refused g c =
+    let p = err_from_is_err_and c.from_residual.result c.from_residual.ensures.1 in
+    rw (p.1, p.2) c.in_err-session.ensures.refused

@@ -1,0 +1,3 @@
+-- Sessions of a set, read from their files.
+pub mod Sessions
+pub mod Collecting
