@@ -18,7 +18,8 @@ pub record AreFramesOf (client : ℕ) (bytes : List ℕ) (frames : List Frame) :
 
 -- known bytes grow by such frames
 abbrev pub AppendsStream : ℕ → List ℕ → Option (List ℕ) → Option (List ℕ) → Type 0
-AppendsStream client bytes old new = (frames : List Frame) × AreFramesOf client bytes frames × Appends old new (frames_text frames)
+AppendsStream client bytes old new =
+    (frames : List Frame) × AreFramesOf client bytes frames × Appends old new (frames_text frames)
 
 -- they grow by such frames of a beginning of the bytes, and by a beginning of the next frame
 pub record AppendsStreamPart (client : ℕ) (bytes : List ℕ) (old new : Option (List ℕ)) : Type 0 where

@@ -1,5 +1,5 @@
--- What a server of several clients promises of the frames that it reads and writes, and of the tree that it leaves. This
--- profile's own.
+-- What a server of several clients promises of the frames that it reads and writes, and of the tree that it leaves.
+-- This profile's own.
 use Rattle.std.specs.Prelude.{◌≡◌, ◌≢◌, ◌⊎◌, ℕ, List, [], ◌∷◌, ◌++◌, length, Option, Some, None}
 use Rattle.std.specs.List.{AllByRecursion}
 use Rattle.std.specs.Io.KnownBytes.{Appends, Consumes, IsAtEnd}
