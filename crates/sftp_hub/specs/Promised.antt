@@ -152,6 +152,8 @@ pub record IsStopped (start : Setup) (input output : List ℕ) (ended : HubEnded
   pub written : List Frame
   pub last : List Frame
   pub cut : List ℕ
+  pub written_fit : AllByRecursion IsFrame (written ++ last)
+  pub written_in_time : AreInTime (written ++ last)
   pub output_is : output ≡ frames_text written ++ cut
   pub cut_is : IsCutIn ended last cut
   pub each : (client : ℕ) → HasWritten start.version taken (written ++ last) happenings client
