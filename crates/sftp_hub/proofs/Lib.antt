@@ -1,0 +1,4 @@
+pub mod Absence
+pub mod Accounting
+pub mod Tables
+pub mod TwoClients
