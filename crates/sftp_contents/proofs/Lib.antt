@@ -1,0 +1,9 @@
+pub mod Tabulated
+pub mod Positions
+pub mod Pages
+pub mod Fronts
+pub mod Splices
+pub mod Reach
+pub mod Cuts
+pub mod Whole
+pub mod Sinks

@@ -1,0 +1,4 @@
+pub mod Bytes
+pub mod Pieces
+pub mod Parts
+pub mod Kept
