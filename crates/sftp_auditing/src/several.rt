@@ -1,5 +1,5 @@
 //! `audit` with several transcripts: each is judged from the same tree, and has a line of its own.
-ghost use Rattle.std.specs.Prelude.{◌≤◌, IfErr};
+ghost use Rattle.std.specs.Prelude.{◌≡◌, ◌≤◌, ℕ, List, Some, IfErr};
 ghost use Rattle.sftp_files.specs.Failures.{IsUsage, failure_status};
 ghost use Rattle.sftp_verdicts.specs.Files.{IsWithin};
 ghost use Rattle.sftp_verdicts.specs.Verdicts.{IsAuditStatus};
@@ -349,23 +349,24 @@ fn audit_named<R: System + Clock, O: Write, E: Write + IsTerminal>(
     }
 }
 
-/// Audits the session of this transcript from the tree of these bytes.
-fn audit_held<'a, S, R, O, E>(
+/// Audits the session of this transcript from the tree of this file. No tree is stored.
+fn audit_held<'a, T, S, R, O, E>(
     rt: &R,
     files: &AuditOptions<'a>,
-    tree: &Held<'_>,
+    tree: &T,
     transcript: &S,
     output: &mut O,
     errors: &mut E,
 ) -> Result<Ending, Failure<'a>>
 where
+    T: Opens<'a>,
     S: Opens<'a>,
     R: System + Clock,
     O: Write,
     E: Write + IsTerminal,
     // What is said of each session is the verdict on these bytes.
-    ensures verdict { IsWithin files.now.memory tree.now.bytes.now →
-        IsSaidAsked files.now.profile files.now.cuts IsAnyEnd tree.now.bytes.now (S.bytes transcript.now) result }
+    ensures verdict { (bytes : List ℕ) → T.bytes tree.now ≡ Some bytes → IsWithin files.now.memory bytes →
+        IsSaidAsked files.now.profile files.now.cuts IsAnyEnd bytes (S.bytes transcript.now) result }
     ensures status { IsAuditStatus result }
 {
     let mut out = StoredFile::new(rt, None, files.keeping);

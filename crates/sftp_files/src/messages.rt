@@ -241,6 +241,8 @@ impl<'a> Failure<'a> {
 }
 
 impl Failure<'_> {
+    ghost use Rattle.sftp_files.specs.Failures.{failure_status};
+
     /// Bad usage with this message, unless there is no memory for it.
     pub fn of_usage(message: Result<String, AllocError>) -> Self
         ensures { IsUsage result }
@@ -259,7 +261,9 @@ impl Failure<'_> {
     }
 
     /// A malformed text or archive with this message, unless there is no memory for it.
-    pub fn of_text(message: Result<String, AllocError>) -> Self {
+    pub fn of_text(message: Result<String, AllocError>) -> Self
+        ensures { 2 ≤ failure_status result }
+    {
         match message {
             Ok(message) => Failure::Text(message),
             Err(_) => Failure::OutOfMemory,

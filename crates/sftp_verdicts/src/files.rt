@@ -94,9 +94,7 @@ pub struct Held<'h> {
 
 impl<'h> Held<'h> {
     /// These bytes, which are those of the file at this path.
-    pub fn new(path: &'h str, bytes: &'h [u8]) -> Held<'h>
-        ensures { result.bytes ≡ bytes.entry }
-    {
+    pub fn new(path: &'h str, bytes: &'h [u8]) -> Held<'h> {
         Held { path, bytes }
     }
 }
