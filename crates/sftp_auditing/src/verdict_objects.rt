@@ -54,8 +54,8 @@ pub(crate) fn print_refused<'a, O: Write>(
     print_object(json, Ending::Refused)
 }
 
-/// Writes what is said beside the refusal. What is expected and what was found are members by themselves, too, where the
-/// name of the transcript is said.
+/// Writes what is said beside the refusal. What is expected and what was found are members by themselves, too, where
+/// the name of the transcript is said.
 fn put_beside<O: Write>(beside: Beside<'_, '_>, json: &mut JsonLines<'_, O>) {
     if let Some(accepted) = beside.accepted {
         json.number("accepted", accepted);

@@ -82,7 +82,8 @@ pub(crate) fn view<'a, R: Files + AllocGlobal, O: Write>(
     }
 }
 
-/// How a run ends that showed something or not. Where nothing was asked for in particular, a file has enough without it.
+/// How a run ends that showed something or not. Where nothing was asked for in particular, a file has enough without
+/// it.
 fn ending_of<'a>(
     options: &ShowOptions<'_>,
     shown: Result<bool, Failure<'a>>,

@@ -107,7 +107,8 @@ fn read_names<'a>(
     names: &mut Vec<ByteString>,
 ) -> Result<&'a [u8], OrderError>
     requires { names.old.items ≡ [] }
-    ensures { GivesNames (result_map_both (λ rest. rest.now) (λ error. error) result) names.new.items (names_in count 1 None bytes.now) }
+    ensures { GivesNames (result_map_both (λ rest. rest.now) (λ error. error) result) names.new.items
+        (names_in count 1 None bytes.now) }
 {
     let mut rest = bytes;
     let mut left = count;

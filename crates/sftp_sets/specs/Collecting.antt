@@ -1,5 +1,6 @@
 -- What is kept of a session while it is read. This profile's own.
-use Rattle.std.specs.Prelude.{◌≡◌, ◌≤◌, ℕ, List, [], ◌∷◌, ◌++◌, map, length, Option, Some, None, ⊤, IsTrue, true, false, Result, Ok, Err}
+use Rattle.std.specs.Prelude.{◌≡◌, ◌≤◌, ℕ, List, [], ◌∷◌, ◌++◌, map, length, Option, Some, None, ⊤, IsTrue, true}
+use Rattle.std.specs.Prelude.{false, Result, Ok, Err}
 use Rattle.std.specs.List.{AllByRecursion}
 use Rattle.std.specs.Option.{option_map}
 use Rattle.sftp_transcript.specs.declared.events.Event.{Event}

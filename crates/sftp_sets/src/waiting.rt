@@ -1,6 +1,6 @@
 //! The requests of a session from the first one without a reply on.
-ghost use Rattle.std.specs.Prelude.{◌≡◌, ◌<◌, ◌≤◌, ◌++◌, ◌∷◌, ℕ, List, [], Some, None, true, false, length, OnOk, IfErr};
-ghost use Rattle.std.specs.Prelude.{MatchOption};
+ghost use Rattle.std.specs.Prelude.{◌≡◌, ◌<◌, ◌≤◌, ◌++◌, ◌∷◌, ℕ, List, [], Some, None, true, false, length};
+ghost use Rattle.std.specs.Prelude.{OnOk, IfErr, MatchOption};
 ghost use Rattle.std.specs.VecDeque.{deque_len, deque_capacity};
 ghost use Rattle.sftp_transcript.specs.Explained.{window};
 ghost use Rattle.sftp_audit.specs.Exchanges.{is_awaited, waits_for, with_reply};

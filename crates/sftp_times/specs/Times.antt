@@ -123,7 +123,8 @@ unfoldable pub entries_in : ℕ → ℕ → List ℕ → Result (List ℕ) Times
 entries_in number last bytes = entries_within (length bytes) number last bytes
 
 -- a beginning, and then times
-abbrev pub followed_by : Result Beginning TimesError → Result (List ℕ) TimesError → Result (Beginning × List ℕ) TimesError
+abbrev pub followed_by : Result Beginning TimesError → Result (List ℕ) TimesError
+    → Result (Beginning × List ℕ) TimesError
 followed_by (Ok first) (Ok times) = Ok (first, times)
 followed_by (Ok first) (Err error) = Err error
 followed_by (Err error) times = Err error

@@ -1,7 +1,8 @@
 //! The parts of a file of times: its beginning, and each entry.
 ghost use Rattle.std.specs.Prelude.{◌≡◌, ◌≤◌, ◌+◌, ◌++◌, length, drop, OnOk};
 ghost use Rattle.std.specs.Int.{w64, to_be_bytes};
-ghost use Rattle.sftp_times.specs.Times.{entry_at, beginning, beginning_at, beginning_length, dated_at, booted_at, dated, booted, number_from};
+ghost use Rattle.sftp_times.specs.Times.{entry_at, beginning, beginning_at, beginning_length, dated_at};
+ghost use Rattle.sftp_times.specs.Times.{booted_at, dated, booted, number_from};
 
 use crate::errors::TimesError;
 use bytes::{Buf, BufMut};

@@ -31,8 +31,8 @@ pub const VERSION: &str = "0.2.0";
 /// - 3: a file or a stream cannot be read or written, or memory ran out.
 ///
 /// With status 2 or 3 the reason is written to `errors`. If `errors` cannot be written, the status is the same.
-/// If a reader closed the pipe that `output` is, nothing is said: `show` and the help then end with status 0, and `diff`
-/// with 1.
+/// If a reader closed the pipe that `output` is, nothing is said: `show` and the help then end with status 0, and
+/// `diff` with 1.
 /// `output` is flushed, unless a session stops because a stream fails or memory runs out. Only `serve`, `make` and
 /// `import` read `input`. Where `errors` is a terminal, `audit`, `diff`, `import` and `export` say there how far they
 /// are, while that takes more than two seconds. `serve` and `import` refuse an `input` that is a terminal, `export` an

@@ -1,5 +1,5 @@
-//! The records of transcripts, selected, timed and paired, with figures, and the entries of tree files, as lines of text
-//! or as JSON.
+//! The records of transcripts, selected, timed and paired, with figures, and the entries of tree files, as lines of
+//! text or as JSON.
 #![tactic(auto)]
 
 mod clocks;

@@ -43,10 +43,10 @@ pub struct View<'a> {
     pub form: Form,
 }
 
-/// Writes a line for each record or exchange that is selected, or their figures, up to the first fault of the transcript
-/// or of the times, and says whether anything was selected. Neither is read yet. The memory that is taken is that of the
-/// requests without a reply, of which there are at most 1,024, and of one record; of the handles of a file that is
-/// followed; and for figures with times of a number for each request.
+/// Writes a line for each record or exchange that is selected, or their figures, up to the first fault of the
+/// transcript or of the times, and says whether anything was selected. Neither is read yet. The memory that is taken is
+/// that of the requests without a reply, of which there are at most 1,024, and of one record; of the handles of a file
+/// that is followed; and for figures with times of a number for each request.
 ///
 /// In pairs, a request is shown when its reply comes, before it; one without a reply is shown in the end.
 ///

@@ -154,10 +154,10 @@ Told = tuple[Optional[int], Change]
 
 def changes_told(deed: Deed, opened: Optional[bytes]) -> Iterator[Told]:
     """The changes of which the reply to a request tells; `opened` is the path by which its handle was opened."""
-    name, fields, reply = deed.request.name, deed.request.fields, deed.reply
+    reply = deed.reply
     if reply is None:
         return
-    if name == "READDIR":
+    if deed.request.name == "READDIR":
         if opened is not None and reply.name == "NAME":
             for part, (entry, _, told) in enumerate(reply.fields[0]):
                 if entry not in (b".", b".."):
