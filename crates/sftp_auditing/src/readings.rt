@@ -137,7 +137,7 @@ fn wrong_part(
 /// Whether a READ of this many bytes gives exactly these.
 fn has_part(judge: &Judge, handle: &[u8], offset: u64, count: u32, part: &[u8]) -> bool {
     match judge.session().read_open(handle, offset, count) {
-        Ok(Some(bytes)) => bytes == part,
+        Ok(Some(bytes)) => bytes.is(part),
         Ok(None) => false,
         Err(_) => false,
     }

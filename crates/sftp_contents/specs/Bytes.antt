@@ -2,11 +2,11 @@
 use Rattle.std.specs.Prelude.{ℕ, ◌+◌, ◌-◌, List, [], ◌∷◌, ◌++◌, length, take, drop, replicate, ◌&&◌, ◌==◌, ◌<◌, ◌^◌}
 use Rattle.std.specs.Prelude.{if◌then◌else◌, nat_le, nat_lt, slice_index, zero, suc}
 
--- the bytes cut to a size, or with zeros appended up to it
+-- `size` bytes: the first of these, and zeros where they end
 abbrev pub resized : ℕ → List ℕ → List ℕ
 resized size bytes = take size bytes ++ replicate (size - length bytes) 0
 
--- with these bytes from the offset on
+-- the bytes with the data over those from the offset on; where they end before the offset, zeros fill them up to it
 abbrev pub overwritten : ℕ → List ℕ → List ℕ → List ℕ
 overwritten offset new bytes = resized offset bytes ++ (new ++ drop (offset + length new) bytes)
 
@@ -20,7 +20,7 @@ unfoldable pub patched : (ℕ → ℕ) → ℕ → List ℕ → ℕ → ℕ
 patched f start new i =
     if nat_le start i && nat_lt i (start + length new) then slice_index new (i - start) else f i
 
--- the bytes after a WRITE: no bytes change nothing, at any offset
+-- the bytes after a WRITE. No data changes nothing, at any offset. With APPEND the offset is the count of the bytes
 abbrev pub written : ℕ → List ℕ → List ℕ → List ℕ
 written offset new bytes = if length new == 0 then bytes else overwritten offset new bytes
 

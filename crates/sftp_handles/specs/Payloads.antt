@@ -112,7 +112,7 @@ FitsSaid (extends bytes) = FitsData bytes
 abbrev pub said_in : Payload → Said
 said_in (payloads.Attrs shown) = shows (Some shown)
 said_in (payloads.Name text) = names (Some text)
-said_in (payloads.Data bytes) = gives bytes.now
+said_in (payloads.Data bytes) = gives bytes
 said_in (payloads.Extended told) = extends told
 said_in payloads.End = ended
 
@@ -120,7 +120,7 @@ said_in payloads.End = ended
 abbrev pub answer_of : Payload → Answer
 answer_of (payloads.Attrs shown) = replies.Attrs shown
 answer_of (payloads.Name text) = only_name text
-answer_of (payloads.Data bytes) = replies.Data bytes.now
+answer_of (payloads.Data bytes) = replies.Data bytes
 answer_of (payloads.Extended told) = replies.Extended told
 answer_of payloads.End = status_of 1
 

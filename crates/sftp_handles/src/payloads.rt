@@ -7,7 +7,7 @@ use crate::answer::forms::{has_code, one_name, status};
 use sftp_listing::same_attributes;
 use sftp_packets::status::EOF;
 use sftp_packets::{Answer, Attrs, ByteString, Names};
-use sftp_tree::NoMemory;
+use sftp_tree::{ByteRange, NoMemory};
 use std::alloc::Global;
 
 /// What the reply to a query carries.
@@ -18,7 +18,7 @@ pub(crate) enum Payload<'a> {
     /// A text, as the only name.
     Name(ByteString),
     /// Bytes of a file, lent.
-    Data(&'a [u8]),
+    Data(ByteRange<'a>),
     /// The data of an extension's reply.
     Extended(ByteString),
     /// That the end was reached.
@@ -41,7 +41,7 @@ impl<'a> Payload<'a> {
                 _ => false,
             },
             Payload::Data(bytes) => match answer {
-                Answer::Data(given) => *bytes == given.as_slice(),
+                Answer::Data(given) => bytes.is(given.as_slice()),
                 _ => false,
             },
             Payload::Extended(told) => match answer {
@@ -64,8 +64,8 @@ impl<'a> Payload<'a> {
             Payload::Attrs(shown) => Ok(Answer::Attrs(shown)),
             Payload::Name(text) => one_name(alloc, text),
             Payload::Data(bytes) => {
-                let copy = ByteString::from_slice(alloc, bytes)?;
-                Ok(Answer::Data(copy))
+                let copy = bytes.to_vec(alloc)?;
+                Ok(Answer::Data(ByteString::new(copy)))
             }
             Payload::Extended(told) => Ok(Answer::Extended(told)),
             Payload::End => Ok(status(alloc, EOF)),

@@ -10,7 +10,7 @@ ghost use Rattle.sftp_profile.specs.BytesRead as spec;
 
 use crate::refusals::has_code;
 use sftp_handles::{GivenTable, Session};
-use sftp_tree::{NoMemory, TreeLimits};
+use sftp_tree::{ByteRange, NoMemory, TreeLimits};
 use sftp_wire::status::EOF;
 use sftp_wire::{Answer, Ask};
 
@@ -137,8 +137,8 @@ fn same_count(session: &Session<GivenTable>, handle: &[u8], at: u64, rest: &[u8]
     ensures other { IfNone result (spec.stand_in at (seen session.now a_file handle.now) rest.now ≡ false) }
 {
     let piece = piece_at(session, handle, at);
-    let count = fewer(piece.len(), rest.len());
-    if same_front(rest, piece, count) {
+    let count = fewer(piece.len() as usize, rest.len());
+    if same_front(rest, &piece, count) {
         return Some(count);
     }
     None
@@ -152,19 +152,23 @@ fn fewer(one: usize, other: usize) -> usize
 }
 
 /// Whether two lists of bytes begin with the same ones.
-fn same_front(rest: &[u8], piece: &[u8], count: usize) -> bool
+fn same_front(rest: &[u8], piece: &ByteRange<'_>, count: usize) -> bool
     requires rest { count ≤ length rest.now }
     requires piece { count ≤ length piece.now }
     ensures { result ≡ same_bytes (take count rest.now) (take count piece.now) }
 {
-    rest[..count] == piece[..count]
+    piece.front(count as u64).is(&rest[..count])
 }
 
 /// The bytes of a file that one READ gives from here on.
-pub(crate) fn piece_at<'a>(session: &'a Session<GivenTable>, handle: &[u8], at: u64) -> &'a [u8]
+pub(crate) fn piece_at<'a>(
+    session: &'a Session<GivenTable>,
+    handle: &[u8],
+    at: u64,
+) -> ByteRange<'a>
     requires { IsTrue (spec.is_readable (seen session.now a_file handle.now) (at + 1)) }
-    ensures piece { result.now ≡ spec.piece_of (limits session.now.tree) at (seen session.now a_file handle.now) }
-    ensures some { 0 < length result.now }
+    ensures piece { result ≡ spec.piece_of (limits session.now.tree) at (seen session.now a_file handle.now) }
+    ensures some { 0 < length result }
 {
     match session.read_open(handle, at, u32::MAX) {
         Ok(Some(bytes)) => bytes,

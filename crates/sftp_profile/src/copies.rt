@@ -332,21 +332,11 @@ fn bytes_of(
     let mut at = offset;
     let end = offset + count;
     'pieces: while at < end {
-        let piece = front_of(piece_at(session, handle, at), end - at);
-        bytes.extend_from_slice(piece)?;
-        at += piece.len() as u64;
+        let piece = piece_at(session, handle, at).front(end - at);
+        piece.append_to(&mut bytes)?;
+        at += piece.len();
     }
     Ok(bytes)
-}
-
-/// The first bytes of a piece, at most as many.
-fn front_of(piece: &[u8], most: u64) -> &[u8]
-    ensures { result.now ≡ take most piece.now }
-{
-    if (piece.len() as u64) < most {
-        return piece;
-    }
-    &piece[..most as usize]
 }
 
 /// Whether a copy within one file is refused.

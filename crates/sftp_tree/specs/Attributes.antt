@@ -13,6 +13,7 @@ use Rattle.std.specs.Int.RustNames.{bit_and}
 use Rattle.sftp_packets.specs.Reading.{has_flag}
 use Rattle.sftp_path.specs.Place.{Name, Place, same_bytes}
 use Rattle.sftp_path.specs.Table.{Table}
+pub use Rattle.sftp_contents.specs.Bytes.{resized}
 
 -- the owner of a new directory: that given, else the tree's, and of the permissions given the low twelve bits, else
 -- 0o755
@@ -35,10 +36,6 @@ changed_owner attrs owner = record {
 -- the owner of a new file: that given, else the tree's, and of the permissions given the low twelve bits, else 0o644
 abbrev pub file_owner : Tree → Attrs → Owner
 file_owner t attrs = changed_owner attrs (record { uid = t.uid; gid = t.gid; permissions = 0o644 })
-
--- `size` bytes: the first of these, and zeros where they end
-abbrev pub resized : ℕ → List ℕ → List ℕ
-resized size bytes = take size bytes ++ replicate (size - length bytes) 0
 
 -- the bytes of a file: as many as are given, else as they were
 abbrev pub changed_bytes : Attrs → List ℕ → List ℕ

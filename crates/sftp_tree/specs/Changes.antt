@@ -9,9 +9,10 @@ use Rattle.sftp_treefile.specs.declared.files.Owner.{Owner}
 use Rattle.sftp_tree.specs.declared.file_contents.Content.{Content}
 use Rattle.sftp_tree.specs.declared.nodes.Node.{Node}
 use Rattle.sftp_tree.specs.declared.nodes.Node.TheVariants.{Dir, File, Link}
+pub use Rattle.sftp_contents.specs.Bytes.{overwritten, written}
 use Rattle.sftp_tree.specs.Tree.{Tree, Names, with_node, without_node, content_at, with_content, with_pin}
 use Rattle.sftp_tree.specs.Tree.{without_pin, trim, total_of}
-use Rattle.sftp_tree.specs.Attributes.{changed_owner, changed_content, file_owner, resized}
+use Rattle.sftp_tree.specs.Attributes.{changed_owner, changed_content, file_owner}
 use Rattle.sftp_tree.specs.Attributes.{truncates}
 use Rattle.sftp_tree.specs.PlaceCauses.{are_one}
 use Rattle.sftp_treefile.specs.declared.limits.TreeLimits.{TreeLimits}
@@ -123,14 +124,6 @@ plan_to_name (Some it) new = put_node new it
 -- than there are. At the end of the file and past it there are none
 abbrev pub bytes_at : TreeLimits → ℕ → ℕ → List ℕ → List ℕ
 bytes_at bounds offset len bytes = take (min len bounds.read_bytes) (drop offset bytes)
-
--- the bytes with the data over those from the offset on; where they end before the offset, zeros fill them up to it
-abbrev pub overwritten : ℕ → List ℕ → List ℕ → List ℕ
-overwritten offset new bytes = resized offset bytes ++ new ++ drop (offset + length new) bytes
-
--- the bytes after a WRITE. No data changes nothing, at any offset. With APPEND the offset is the count of the bytes
-abbrev pub written : ℕ → List ℕ → List ℕ → List ℕ
-written offset new bytes = if length new == 0 then bytes else overwritten offset new bytes
 
 -- how many bytes the file of a number has, or none if there is no file
 abbrev pub length_of : Option Content → ℕ

@@ -6,6 +6,7 @@ use Rattle.std.specs.List.{AllByRecursion}
 use Rattle.sftp_packets.specs.declared.attributes.Attrs.{Attrs}
 use Rattle.sftp_path.specs.Place.{Place}
 use Rattle.sftp_path.specs.Table.{Table, InOrder, get, retain, with_values}
+pub use Rattle.sftp_contents.specs.Bytes.{IsWritable}
 use Rattle.sftp_treefile.specs.declared.limits.TreeLimits.{TreeLimits}
 use Rattle.sftp_tree.specs.declared.file_contents.Content.{Content}
 use Rattle.sftp_tree.specs.declared.file_contents.Stored.{Stored}
@@ -107,10 +108,6 @@ with_attributes_set attrs = with_content_made (changed_content attrs)
 -- bytes are written to it
 abbrev pub with_bytes_written : ℕ → List ℕ → Stored → Option Stored
 with_bytes_written offset new = with_content_made (written_content offset new)
-
--- bytes that are written end at a number that a size can be
-abbrev pub IsWritable : ℕ → List ℕ → Type 0
-IsWritable offset new = 0 < length new → offset + length new < 2 ^ 63
 
 -- the file of a number is changed, if there is one; the others stay
 pub record IsChanged (change : Stored → Option Stored) (number : ℕ) (before after : Table ℕ Stored) : Type 0 where

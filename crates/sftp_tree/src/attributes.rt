@@ -103,7 +103,7 @@ impl Tree {
     {
         match self.content(number) {
             Some(content) => said(
-                content.bytes.as_slice().len() as u64,
+                content.bytes.len(),
                 (content.owner.uid, content.owner.gid),
                 FILE_BITS + content.owner.permissions,
             ),

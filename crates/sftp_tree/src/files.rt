@@ -86,7 +86,7 @@ impl Files {
         ensures err { OnErr result (self.new ≡ self.old) }
     {
         let before = length_at(&self.by_number, number);
-        let count = content.bytes.as_slice().len() as u64;
+        let count = content.bytes.len();
         self.by_number.insert(
             number,
             Stored {
@@ -223,7 +223,7 @@ fn length_at(files: &BTreeMap<FileNo, Stored>, number: FileNo) -> u64
     ensures within { (total : ℕ) → IsSummed files.now.entries total → result ≤ total }
 {
     match files.get(&number) {
-        Some(stored) => stored.content.bytes.as_slice().len() as u64,
+        Some(stored) => stored.content.bytes.len(),
         None => 0,
     }
 }
@@ -255,7 +255,7 @@ fn total_of(files: &BTreeMap<FileNo, Stored>) -> u64
 {
     let mut total = 0;
     for stored in files.values() {
-        total += stored.content.bytes.as_slice().len() as u64;
+        total += stored.content.bytes.len();
     }
     total
 }

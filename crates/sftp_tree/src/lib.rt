@@ -40,6 +40,7 @@ pub use causes::{Cause, Causes, EVERY_CAUSE, Refused};
 pub use entry_times::{HasTimes, Looks};
 pub use file_numbers::FileNo;
 pub use listings::Item;
+pub use sftp_contents::ByteRange;
 pub use sftp_treefile::{NoMemory, TreeError, TreeLimits, WriteError};
 pub use ticks::Ticks;
 pub use trees::Tree;

@@ -1,6 +1,6 @@
 //! Files by their numbers: what the requests on open files read of them and change in them (draft, sections 6.4, 6.8
 //! and 6.9). Each call is for a file that exists.
-ghost use Rattle.std.specs.Prelude.{◌≡◌, ◌+◌, Some, is_some, option_map, length, take, drop, IfErr, IsTrue, OnOk};
+ghost use Rattle.std.specs.Prelude.{◌≡◌, ◌+◌, Some, is_some, option_map, length, IfErr, IsTrue, OnOk};
 ghost use Rattle.std.specs.Prelude.{OnErr};
 ghost use Rattle.sftp_tree.specs.Tree as tree;
 ghost use Rattle.sftp_tree.specs.Attributes as attributes;
@@ -10,6 +10,7 @@ ghost use Rattle.sftp_tree.specs.Room as room;
 use crate::causes::{Cause, Refused};
 use crate::file_numbers::FileNo;
 use crate::trees::Tree;
+use sftp_contents::ByteRange;
 use sftp_packets::{Attrs, ends_within};
 
 impl Tree {
@@ -26,22 +27,22 @@ impl Tree {
         ensures { option_map (λ content. length content.bytes) (tree.content_at self.now.files number) ≡ Some result }
     {
         match self.content(number) {
-            Some(content) => content.bytes.as_slice().len() as u64,
+            Some(content) => content.bytes.len(),
             None => unreachable!(),
         }
     }
 
     /// READ: the bytes of a file from an offset on, at most `len` of them and at most as many as the tree's limit of
     /// one READ. At the end of the file and past it there are none. Does not allocate.
-    pub fn read_at(&self, number: FileNo, offset: u64, len: u32) -> &[u8]
+    pub fn read_at(&self, number: FileNo, offset: u64, len: u32) -> ByteRange<'_>
         requires { tree.HasFile self.now.files number }
         ensures { option_map (λ content. changes.bytes_at (tree.limits self.now) offset len content.bytes)
             (tree.content_at self.now.files number)
-            ≡ Some result.now }
+            ≡ Some result }
     {
-        let most = len.min(self.tree_limits().read_bytes) as usize;
+        let most = u64::from(len.min(self.tree_limits().read_bytes));
         match self.content(number) {
-            Some(content) => bytes_at(content.bytes.as_slice(), offset, most),
+            Some(content) => content.bytes.range(offset, most),
             None => unreachable!(),
         }
     }
@@ -115,14 +116,4 @@ impl Tree {
         ends_within(offset, count, most)
             && self.total_fits_with(number, self.length_of(number).max(offset + count))
     }
-}
-
-/// At most `most` bytes, from `offset` on.
-fn bytes_at(bytes: &[u8], offset: u64, most: usize) -> &[u8]
-    ensures { result.now ≡ take most (drop offset bytes.now) }
-{
-    let start = offset.min(bytes.len() as u64) as usize;
-    let rest = &bytes[start..];
-    let count = most.min(rest.len());
-    &rest[..count]
 }

@@ -300,7 +300,7 @@ impl Tree {
         ensures { result ≡ changes.length_of (tree.content_at self.now.files number) }
     {
         match self.content(number) {
-            Some(content) => content.bytes.as_slice().len() as u64,
+            Some(content) => content.bytes.len(),
             None => 0,
         }
     }

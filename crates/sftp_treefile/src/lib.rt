@@ -33,5 +33,6 @@ pub use sending::{
 pub use sftp_path::NoMemory;
 pub use times::{EntryTimes, NO_TIMES, Times};
 pub use writing::{
-    put_directory, put_file, put_further_name, put_head, put_link, put_timed_directory,
+    put_directory, put_file, put_file_start, put_further_name, put_head, put_link,
+    put_timed_directory,
 };

@@ -273,7 +273,7 @@ fn letter_of_file(count: u64) -> u8
 }
 
 /// Appends what the entry of the first name of a file says before the file's bytes, of which there are `count`.
-pub(crate) fn put_file_start(
+pub fn put_file_start(
     out: &mut Vec<u8>,
     path: &[u8],
     owner: &Owner,

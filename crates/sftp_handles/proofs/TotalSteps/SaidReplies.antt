@@ -263,6 +263,6 @@ fits-sayable (extends bytes) fits = (replies.Extended bytes, reply-extended byte
 pub payload-reply : (payload : Payload) → FitsSaid (said_in payload) → IsReplyOf (said_in payload) (answer_of payload)
 payload-reply (payloads.Attrs shown) fits = reply-attributes shown fits
 payload-reply (payloads.Name text) fits = reply-name text fits
-payload-reply (payloads.Data bytes) fits = reply-data bytes.now fits
+payload-reply (payloads.Data bytes) fits = reply-data bytes fits
 payload-reply (payloads.Extended told) fits = reply-extended told fits
 payload-reply payloads.End fits = reply-end

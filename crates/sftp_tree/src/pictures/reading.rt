@@ -8,11 +8,12 @@ ghost use Rattle.sftp_tree.specs.PictureParts as parts;
 
 use super::rows::{Grown, grow};
 use crate::entries::Entries;
-use crate::file_contents::{Content, FileBytes};
+use crate::file_contents::Content;
 use crate::file_numbers::FileNo;
 use crate::files::Files;
 use crate::nodes::Node;
 use crate::trees::Tree;
+use sftp_contents::FileBytes;
 use sftp_path::{NoMemory, Place, place_of_text};
 use sftp_treefile::{Kind, Owner, Row, TreeFile};
 use std::alloc::Global;

@@ -4,6 +4,7 @@ ghost use Rattle.std.specs.Io.KnownBytes.{Appends};
 ghost use Rattle.std.specs.Ordering.{nat_cmp};
 ghost use Rattle.sftp_path.specs.Table.{get};
 ghost use Rattle.sftp_streams.specs.Streams.{AppendsPart};
+ghost use Rattle.sftp_treefile.specs.declared.files.Kind.TheVariants.{First};
 ghost use Rattle.sftp_treefile.specs.TreeFile.{AreFileTimes, entry_text, spelled};
 ghost use Rattle.sftp_treefile.specs.TreeFileParts.{head_bytes};
 ghost use Rattle.sftp_treefile.specs.Streamed.{CountsSink};
@@ -15,14 +16,16 @@ use super::branches::send_entries;
 use super::measuring::file_size;
 use super::progress::note_first;
 use crate::entries::Entries;
+use crate::file_contents::Content;
 use crate::file_numbers::FileNo;
 use crate::nodes::Node;
 use crate::trees::Tree;
 use sftp_packets::ByteString;
 use sftp_path::{NoMemory, Place, absolute};
-use sftp_streams::{Sink, Tally};
+use sftp_streams::{Sink, Tally, put_all};
 use sftp_treefile::{
-    EntryTimes, Head, Owner, Times, WriteError, send_further_name, send_head, send_timed_file,
+    EntryTimes, Head, Owner, Times, WriteError, put_file_start, send_further_name, send_head,
+    send_timed_file,
 };
 use std::collections::BTreeMap;
 
@@ -71,6 +74,28 @@ fn send_front<L: Sink>(
     Ok(())
 }
 
+/// Writes the entry of the first name of a file, with its times if it has some, and with the file's bytes.
+fn send_content<L: Sink>(
+    sink: &mut L,
+    scratch: &mut Vec<u8>,
+    path: &[u8],
+    content: &Content,
+    times: Times,
+) -> Result<(), WriteError>
+    requires { length path.now < 2 ^ 32 }
+    ensures ok { OnOk result (Appends (L.written sink.old) (L.written sink.new)
+        (entry_text (record { path = path.now; kind = First content.now.owner content.now.bytes }, times))) }
+    ensures err { OnErr result (AppendsPart (L.written sink.old) (L.written sink.new)
+        (entry_text (record { path = path.now; kind = First content.now.owner content.now.bytes }, times))) }
+    ensures counts { CountsSink result (L.failures sink.old) (L.failures sink.new) }
+{
+    scratch.clear();
+    put_file_start(scratch, path, &content.owner, times, content.bytes.len())?;
+    put_all(sink, scratch)?;
+    content.bytes.send(sink)?;
+    Ok(())
+}
+
 /// Writes the entry of a name of a file. The first one comes with the file and its times, and is noted with its number.
 #[tactic(auto, unfolding(sftp_path::specs::Table::get))]
 pub(super) fn send_name<L: Sink>(
@@ -110,14 +135,7 @@ pub(super) fn send_name<L: Sink>(
     }
     note_first(firsts, number, entry)?;
     match tree.content(number) {
-        Some(content) => send_timed_file(
-            sink,
-            scratch,
-            path,
-            &content.owner,
-            times,
-            content.bytes.as_slice(),
-        ),
+        Some(content) => send_content(sink, scratch, path, content, times),
         None => send_timed_file(sink, scratch, path, &NO_OWNER, times, b""),
     }
 }

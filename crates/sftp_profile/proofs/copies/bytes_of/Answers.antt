@@ -10,17 +10,17 @@ pieces-preserved c =
     let found = seen c.args.session.now a_file c.args.handle.now in
     let at = c.pieces.at in
     let end = c.args.offset + c.args.count in
-    let front = c.front_of-piece.result.now in
+    let front = c.front-piece.result in
     let before : c.pieces.at < c.args.offset + c.args.count = c.pieces-test.true in
     record {
-      before = (front-counts at end c.piece_at.result.now front before c.piece_at.ensures.some c.front_of-piece.ensures).1;
+      before = (front-counts at end c.piece_at.result front before c.piece_at.ensures.some c.front-piece.ensures).1;
       end_is = refl;
       copied =
           ap (λ l. l ++ bytes_within found (at + length front) (end - (at + length front)))
-          c.in_ok-extend_from_slice.ensures.items
+          c.in_ok-append_to.ensures
           ∙ (joined c.pieces.bytes.items front (bytes_within found (at + length front) (end - (at + length front)))
           ∙ (ap (λ l. c.pieces.bytes.items ++ l)
-          (next-bytes (limits c.args.session.now.tree) at end found c.piece_at.result.now front before
-          c.requires.there c.piece_at.ensures.piece c.front_of-piece.ensures)
+          (next-bytes (limits c.args.session.now.tree) at end found c.piece_at.result front before
+          c.requires.there c.piece_at.ensures.piece c.front-piece.ensures)
           ∙ c.pieces.invariant.copied));
     }

@@ -1,4 +1,4 @@
-use Rattle.sftp_tree.proofs.Imports.{◌≡◌, ◌∙◌, sym, ap, arith, length, Some, None, option_map, nat_cmp, get, get-with_values}
+use Rattle.sftp_tree.proofs.Imports.{◌≡◌, ◌∙◌, sym, ap, arith, Some, None, option_map, nat_cmp, get, get-with_values}
 use Rattle.sftp_tree.proofs.Imports.{content_at, contents, Stored}
 use Rattle.sftp_tree.specs.Changes.{length_of}
 use Rattle.sftp_tree.proofs.Totals.{part-summed}
@@ -12,7 +12,7 @@ returns-in-Some-clause-is c =
     let there : Some c.in-Some.stored.now ≡ get nat_cmp files c.args.number = c.in-Some.ensures.value in
     let found : content_at (contents files) c.args.number ≡ Some c.in-Some.stored.now.content =
     get-with_values nat_cmp content files c.args.number ∙ ap (option_map content) (sym there) in
-    ap length c.as_slice.ensures ∙ sym (ap length_of found)
+    c.len.ensures ∙ sym (ap length_of found)
 
 pub returns-in-Some-clause-within : goal.returns-in-Some-clause-within
 returns-in-Some-clause-within c = λ total summed.
