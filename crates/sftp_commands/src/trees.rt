@@ -94,11 +94,26 @@ impl<K: HasTimes> Content for TimedPicture<'_, K> {
     }
 }
 
+/// Why a tree is not written whose file would be too large.
+const TOO_LARGE: &str =
+    "the tree file would have more bytes than '--most-saved' allows; the file is unchanged";
+
+/// Fails if a tree file may have more bytes than are to be written. This is known before the first is written: the zeros
+/// that nobody sent take no memory, but the file has them.
+fn require_small<'a>(name: &'a str, keeping: Keeping, size: u64) -> Result<(), Failure<'a>>
+    ensures { IfErr result IsUnwritten }
+{
+    if size > keeping.most_saved {
+        return Err(Failure::Unfit(name, TOO_LARGE));
+    }
+    Ok(())
+}
+
 /// Writes the tree file of a tree to the file `name`, which is made or replaced. If that fails, the file is unchanged.
 ///
 /// # Errors
 ///
-/// If the file cannot be written, or memory runs out.
+/// If the tree file has too many bytes or cannot be written, or memory runs out.
 pub fn write_tree<'a, R: System>(
     rt: &R,
     name: &'a str,
@@ -107,6 +122,7 @@ pub fn write_tree<'a, R: System>(
 ) -> Result<(), Failure<'a>>
     ensures { IfErr result IsUnwritten }
 {
+    require_small(name, keeping, tree.file_bound(false))?;
     write_content(rt, name, keeping, &Picture(tree))
 }
 
@@ -124,5 +140,6 @@ pub fn write_timed_tree<'a, R: System, K: HasTimes>(
 ) -> Result<(), Failure<'a>>
     ensures { IfErr result IsUnwritten }
 {
+    require_small(name, keeping, tree.file_bound(true))?;
     write_content(rt, name, keeping, &TimedPicture(tree, keeper))
 }

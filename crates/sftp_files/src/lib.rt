@@ -25,7 +25,7 @@ pub use names::Named;
 pub use options::{DiffForm, ImportOptions, RaiseTo, ServeOptions, ShowOptions};
 pub use reading::{is_read_again, open, open_at, read, read_at_most};
 pub use recording::{Record, Recording};
-pub use saving::{Keeping, PRIVATE, require_fit, write, write_content, write_last};
+pub use saving::{Keeping, MOST_SAVED, PRIVATE, require_fit, write, write_content, write_last};
 use std::env::Env;
 use std::fs::{File, Files};
 use std::random::RandomSource;

@@ -33,6 +33,10 @@ const UNFIT: &str = "neither a regular file nor standard output";
 /// The name of standard output, which is open already.
 const OUTPUT: &str = "/dev/stdout";
 
+/// The most bytes of a tree file that are written where no option says so. Each byte that was sent is in memory, so a
+/// larger tree file is mostly zeros that nobody sent, unless memory is larger too.
+pub const MOST_SAVED: u64 = 17_179_869_184;
+
 /// How files are written.
 #[derive(Clone, Copy)]
 pub struct Keeping {
@@ -40,6 +44,8 @@ pub struct Keeping {
     pub mode: u32,
     /// Whether the bytes and the name have to be on the disk before the run ends.
     pub is_synced: bool,
+    /// The most bytes of the tree file of a session's last tree.
+    pub most_saved: u64,
 }
 
 /// Where bytes for a name go.

@@ -45,6 +45,13 @@ const NO_SYNC: Argument = (
     "Do not wait until what is written is on the disk",
 );
 
+/// The option that bounds what zeros that nobody sent take on the disk.
+const MOST_SAVED: Argument = (
+    "most-saved",
+    Form::Number("BYTES"),
+    "The most bytes of the final tree's file, 17179869184 by default; a larger one is not written",
+);
+
 /// The option by which a run says how far it is where nobody looks on.
 const PROGRESS: Argument = (
     "progress",
@@ -116,6 +123,7 @@ pub(crate) const SERVE: &[Argument] = &[
         "Print on standard error when the session opens and how it ends",
     ),
     MEMORY,
+    MOST_SAVED,
     MODE,
     NO_SYNC,
 ];
@@ -165,6 +173,7 @@ pub(crate) const AUDIT: &[Argument] = &[
     profiles::SYMLINK,
     PROGRESS,
     MEMORY,
+    MOST_SAVED,
     MODE,
     NO_SYNC,
 ];

@@ -16,7 +16,8 @@ use crate::{help, importing, profiles, searching};
 use clap::error::ErrorKind;
 use clap::{Arg, ArgAction, ArgMatches, Command, Error, value_parser};
 use sftp_files::{
-    DiffForm, Failure, ImportOptions, Keeping, MORE, PRIVATE, RaiseTo, ServeOptions, ShowOptions,
+    DiffForm, Failure, ImportOptions, Keeping, MORE, MOST_SAVED, PRIVATE, RaiseTo, ServeOptions,
+    ShowOptions,
 };
 use sftp_vary::{Freedoms, Style, Variation, Words};
 use sftp_verdicts::{AuditOptions, InferOptions, octal};
@@ -262,6 +263,7 @@ pub(crate) fn keeping_of(given: &ArgMatches<'_>) -> Keeping {
     Keeping {
         mode: mode_of(given.get_str("mode")),
         is_synced: !given.get_flag("no-sync"),
+        most_saved: given.get_one("most-saved").unwrap_or(MOST_SAVED),
     }
 }
 

@@ -22,6 +22,7 @@ use crate::entries::Entries;
 use crate::entry_times::{HasTimes, Looks};
 use crate::files::Files;
 use crate::trees::Tree;
+use measuring::size_bound;
 use reading::tree_of;
 use sftp_path::{NoMemory, Place};
 use sftp_streams::{Sink, Source};
@@ -150,6 +151,12 @@ impl Tree {
         let times = entry_times(self, keeper)?;
         send_picture(sink, self, &times)?;
         Ok(())
+    }
+
+    /// How many bytes the tree file of the tree takes at most, with the times of entries or without: up to 16 more for
+    /// each name of a file, and with times up to 8 more for each entry. A count that does not fit is the largest.
+    pub fn file_bound(&self, has_times: bool) -> u64 {
+        size_bound(self, has_times)
     }
 
     /// The tree file of the tree.

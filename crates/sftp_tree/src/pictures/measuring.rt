@@ -51,6 +51,23 @@ fn size_below(dir: &Dir, path: usize) -> usize {
     size
 }
 
+/// The times of an entry.
+const TIMES: usize = 8;
+
+/// More than the limits take that only a head with times has to have.
+const LIMITS: usize = 64;
+
+/// How many bytes the tree file takes, at most, with times or without.
+pub(super) fn size_bound(tree: &Tree, has_times: bool) -> u64 {
+    let names = tree.names();
+    let times = if has_times {
+        names.len().saturating_mul(TIMES).saturating_add(LIMITS)
+    } else {
+        0
+    };
+    file_size(tree, names.root_directory()).saturating_add(times) as u64
+}
+
 /// How many bytes the tree file takes, at most. The directory is the tree's root.
 pub(super) fn file_size(tree: &Tree, root: &Dir) -> usize {
     let opening = tree.tree_limits().opening(false);
