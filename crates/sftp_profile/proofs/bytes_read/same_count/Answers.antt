@@ -13,11 +13,12 @@ pub returns-then-same_front-clause-same : goal.returns-then-same_front-clause-sa
 returns-then-same_front-clause-same c =
     piece-goes (limits c.args.session.now.tree) c.args.at c.fewer-count.result
     (seen c.args.session.now a_file c.args.handle.now) c.args.rest.now c.piece_at-piece.result c.requires.there
-    c.requires.some c.piece_at-piece.ensures.some c.piece_at-piece.ensures.piece c.fewer-count.ensures
+    c.requires.some c.piece_at-piece.ensures.some c.piece_at-piece.ensures.piece (rw c.len-count.ensures at c.fewer-count.ensures)
     (sym c.same_front.ensures ∙ c.if-same_front.true)
 
 pub returns-clause-other : goal.returns-clause-other
 returns-clause-other c =
     pieces-wrong (limits c.args.session.now.tree) c.args.at c.fewer-count.result
     (seen c.args.session.now a_file c.args.handle.now) c.args.rest.now c.piece_at-piece.result
-    c.piece_at-piece.ensures.piece c.fewer-count.ensures (sym c.same_front.ensures ∙ c.if-same_front.false)
+    c.piece_at-piece.ensures.piece (rw c.len-count.ensures at c.fewer-count.ensures)
+    (sym c.same_front.ensures ∙ c.if-same_front.false)

@@ -1,4 +1,4 @@
-use Rattle.std.proofs.Common.{◌+◌, ◌-◌, ◌<◌, ◌++◌, ◌∙◌, length, refl, ap}
+use Rattle.std.proofs.Common.{◌+◌, ◌-◌, ◌<◌, ◌++◌, ◌∙◌, ◌≡◌, length, refl, ap}
 use Rattle.sftp_tree.specs.Tree.{limits}
 use Rattle.sftp_handles.specs.State.{a_file, seen}
 use Rattle.sftp_profile.specs.Departures.{bytes_within}
@@ -12,15 +12,16 @@ pieces-preserved c =
     let end = c.args.offset + c.args.count in
     let front = c.front-piece.result in
     let before : c.pieces.at < c.args.offset + c.args.count = c.pieces-test.true in
+    let taken : c.len-at.result ≡ length front = c.len-at.ensures in
     record {
-      before = (front-counts at end c.piece_at.result front before c.piece_at.ensures.some c.front-piece.ensures).1;
+      before = rw taken (front-counts at end c.piece_at.result front before c.piece_at.ensures.some c.front-piece.ensures).1;
       end_is = refl;
-      copied =
+      copied = rw taken (
           ap (λ l. l ++ bytes_within found (at + length front) (end - (at + length front)))
           c.in_ok-append_to.ensures
           ∙ (joined c.pieces.bytes.items front (bytes_within found (at + length front) (end - (at + length front)))
           ∙ (ap (λ l. c.pieces.bytes.items ++ l)
           (next-bytes (limits c.args.session.now.tree) at end found c.piece_at.result front before
           c.requires.there c.piece_at.ensures.piece c.front-piece.ensures)
-          ∙ c.pieces.invariant.copied));
+          ∙ c.pieces.invariant.copied)));
     }
