@@ -1,5 +1,5 @@
 use Rattle.std.proofs.Common.{take, ◌∙◌}
-use Rattle.std.proofs.lemmas.List.{nat_list_eq_equiv}
+use Rattle.std.specs.Cmp.Lexicographic.{nat_list_eq_equiv}
 use Rattle.sftp_profile.proofs.bytes_read.same_front.Goals as goal
 
 pub returns : goal.returns
