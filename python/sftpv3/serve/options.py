@@ -13,6 +13,8 @@ OWN = ("--log", "--grace", "--program")
 USUAL = ("--texts", "--long-names", "--times")
 # The options of `sftpv3 serve` whose values the script looks at.
 SEEN = ("--tree", "--save", "--record", "--replay", "--mode")
+# The most bytes that are saved, where the disk has room for more: what `sftpv3 serve` saves at most by itself.
+MOST_SAVED = 16 << 30
 # How long a client may take for the replies that it is still owed after a signal.
 GRACE = 30.0
 
@@ -36,15 +38,17 @@ class Options:
         self.places: dict[str, int] = {}
         self.is_synced = True
 
-    def server_words(self, side: str | None, tree: int | None) -> list[str]:
-        """The command of the server, which saves into the file `side`, and reads the tree from this descriptor, if it
-        gets one."""
+    def server_words(self, side: str | None, tree: int | None, most: int | None = None) -> list[str]:
+        """The command of the server, which saves into the file `side`, at most so many bytes, unless the options say how
+        many, and reads the tree from this descriptor. Each only if it gets one."""
         passed = list(self.passed)
         if side is not None:
             passed[self.places["--save"]] = side
         if tree is not None:
             passed[self.places["--tree"]] = f"/proc/self/fd/{tree}"
         usual = [it for it in USUAL if it not in passed and it not in self.left_out]
+        if most is not None and not any(it.partition("=")[0] == "--most-saved" for it in passed):
+            usual += ["--most-saved", str(min(most, MOST_SAVED))]
         return [self.program or program_beside(), "serve", *passed, *usual]
 
 

@@ -12,7 +12,8 @@ sshfs, its end is cut. A signal that was ignored at the start stays ignored.
 
 Before the session the file of --save is tried: whether its folder can be written, whether the file can be replaced,
 and whether the disk has room for a tree as large as that of --tree. If not, the exit status is 3, and there is no
-session. While the session runs, an empty file FILE.serve-N is beside FILE; the server saves into it, and it then gets
+session. The server saves no more than the disk has room for then, less a tenth, and no more than 16 GiB, unless you
+give --most-saved. While the session runs, an empty file FILE.serve-N is beside FILE; the server saves into it, and it then gets
 the name FILE. If FILE is no longer the one that was there at the start, since another session saved meanwhile, it is
 not replaced: the tree goes to FILE.2, FILE.3, ..., and a line says so. What a kill of the script leaves in FILE.serve-N
 is a whole tree, or empty.
@@ -48,6 +49,8 @@ def parser():
     group.add_argument("--replay", metavar="FILE", help="ask and answer in the order of this transcript")
     group.add_argument("--verbose", action="store_true", help="say when the session opens and how it ends")
     group.add_argument("--memory", metavar="BYTES", help="end as if memory ran out once more than these are taken")
+    group.add_argument("--most-saved", metavar="BYTES", help="the most bytes of the final tree's file; a larger one is "
+                                                             "not written")
     group.add_argument("--mode", metavar="OCTAL", help="the permissions of a file that is made new, 0600 by default")
     group.add_argument("--no-sync", action="store_true", help="do not wait until what is written is on the disk")
     return made

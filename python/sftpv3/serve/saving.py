@@ -92,6 +92,7 @@ class Saving:
             raise Unfit(f"cannot write {name}: {reason(error)}") from None
         try:
             take_room(self.file, tree)
+            self.most = share_of_disk(self.file)
         except OSError as error:
             self.discard()
             raise Unfit(f"cannot write {name}: {reason(error)}") from None
@@ -198,6 +199,12 @@ def take_room(file: int, tree: str):
         found = None
     os.posix_fallocate(file, 0, max(found.st_size if found else 0, 1))
     os.ftruncate(file, 0)
+
+
+def share_of_disk(file: int) -> int:
+    """How many bytes the server may save: what the disk of this file has room for, less a tenth."""
+    found = os.fstatvfs(file)
+    return found.f_bavail * found.f_frsize * 9 // 10
 
 
 def keep_rights(place: ways.Location, found: os.stat_result, own_mode: int):

@@ -87,14 +87,14 @@ class Log(Notices):
 class Session:
     """A session of the server, from its start to its end."""
 
-    def __init__(self, options: Options, log: Log, signs: Signals, side: str | None):
+    def __init__(self, options: Options, log: Log, signs: Signals, side: str | None, most: int | None):
         self.grace, self.signs = options.grace, signs
         self.input = Given() if is_local_socket(0) else Filled()
         self.tree = tree_of(options.tree)
         self.streams = [it for it in (self.input, self.tree) if it]
         self.waiting = Waiting(options.record, options.replay)
         self.lines = Lines(log) if log.log is not None else None
-        self.process = self.start(options.server_words(side, self.tree and self.tree.server_end))
+        self.process = self.start(options.server_words(side, self.tree and self.tree.server_end, most))
         self.code = None
         # when the client's end is to be cut, and whether its input is ended
         self.until, self.is_ending = None, False
@@ -223,7 +223,8 @@ def play(options: Options, log: Log, signs: Signals) -> int:
     if options.save is not None:
         saving = Saving(options.save, options.tree, options.mode, options.is_synced)
     try:
-        session = Session(options, log, signs, saving and saving.side.path)
+        side, most = (saving.side.path, saving.most) if saving else (None, None)
+        session = Session(options, log, signs, side, most)
     except NotStarted as error:
         if saving:
             saving.discard()
