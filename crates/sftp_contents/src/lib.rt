@@ -12,6 +12,8 @@ mod ranges;
 mod reading;
 mod sending;
 mod store;
+#[cfg(test)]
+mod tests;
 mod writing;
 
 pub use contents::FileBytes;
