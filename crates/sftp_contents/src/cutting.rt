@@ -61,7 +61,8 @@ fn cut_pages(pages: &mut BTreeMap<u64, Vec<u8>>, last: u64, count: usize)
 
 /// Takes away the bytes of a page behind so many.
 fn cut_page(pages: &mut BTreeMap<u64, Vec<u8>>, number: u64, count: usize)
-    ensures { spec.IsWithPage number (take count (spec.page pages.old.entries number)) pages.old.entries pages.new.entries }
+    ensures { spec.IsWithPage number (take count (spec.page pages.old.entries number))
+        pages.old.entries pages.new.entries }
 {
     if let Some(page) = pages.get_mut(&number) {
         cut_bytes(page, count);

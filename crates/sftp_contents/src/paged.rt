@@ -1,5 +1,6 @@
 //! The bytes of a file, in pages.
-ghost use Rattle.std.specs.Prelude.{◌≡◌, ◌+◌, ◌<◌, ◌≤◌, ◌^◌, ℕ, [], length, OnOk, OnErr, IfOk, IsTrue, ◌++◌, take, drop};
+ghost use Rattle.std.specs.Prelude.{◌≡◌, ◌+◌, ◌<◌, ◌≤◌, ◌^◌, ℕ, [], length, OnOk, OnErr, IfOk, IsTrue};
+ghost use Rattle.std.specs.Prelude.{◌++◌, take, drop};
 ghost use Rattle.sftp_contents.specs.Bytes.{resized, written, IsWritable};
 ghost use Rattle.sftp_contents.specs.Parts.{bytes_in, count_in};
 

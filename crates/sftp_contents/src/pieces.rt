@@ -122,7 +122,8 @@ fn extend_page(
 /// Writes bytes over those that are kept.
 fn overwrite(bytes: &mut Vec<u8>, start: usize, new: &[u8])
     requires { start + length new.now ≤ length bytes.old.items }
-    ensures { bytes.new.items ≡ take start bytes.old.items ++ (new.now ++ drop (start + length new.now) bytes.old.items) }
+    ensures { bytes.new.items
+        ≡ take start bytes.old.items ++ (new.now ++ drop (start + length new.now) bytes.old.items) }
 {
     bytes.as_mut_slice()[start..start + new.len()].copy_from_slice(new);
 }

@@ -1,5 +1,6 @@
 //! Ranges of a content, read part by part.
-ghost use Rattle.std.specs.Prelude.{◌≡◌, ◌+◌, ◌-◌, ◌<◌, ◌≤◌, ◌^◌, ℕ, [], length, OnOk, OnErr, ◌++◌, take, drop, IsTrue, replicate};
+ghost use Rattle.std.specs.Prelude.{◌≡◌, ◌+◌, ◌-◌, ◌<◌, ◌≤◌, ◌^◌, ℕ, [], length, OnOk, OnErr};
+ghost use Rattle.std.specs.Prelude.{◌++◌, take, drop, IsTrue, replicate};
 ghost use Rattle.sftp_contents.specs.Bytes.{tabulate};
 ghost use Rattle.sftp_contents.specs.Pieces as spec;
 ghost use Rattle.sftp_contents.specs.Parts.{bytes_in, count_in};

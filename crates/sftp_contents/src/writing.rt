@@ -1,5 +1,6 @@
 //! Bytes that are written over a range of a content, which may be in several pieces.
-ghost use Rattle.std.specs.Prelude.{◌≡◌, ◌+◌, ◌-◌, ◌<◌, ◌≤◌, ◌^◌, ℕ, [], length, slice_index, OnOk, OnErr, ◌++◌, take, drop};
+ghost use Rattle.std.specs.Prelude.{◌≡◌, ◌+◌, ◌-◌, ◌<◌, ◌≤◌, ◌^◌, ℕ, [], length, slice_index, OnOk, OnErr};
+ghost use Rattle.std.specs.Prelude.{◌++◌, take, drop};
 ghost use Rattle.sftp_contents.specs.Bytes.{patched};
 ghost use Rattle.sftp_contents.specs.Pieces as spec;
 
