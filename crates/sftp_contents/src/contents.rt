@@ -49,8 +49,8 @@ impl FileBytes {
         count(&self.kept)
     }
 
-    /// Cuts the bytes to a size, or appends zeros up to it, which take no memory. Cutting gives back what the bytes that
-    /// go took; the last piece that stays gives some back where less than half of it would be used.
+    /// Cuts the bytes to a size, or appends zeros up to it, which take no memory. Cutting gives back what was taken for
+    /// the bytes that go; the last piece that stays gives some back where less than half of it would be used.
     ///
     /// # Errors
     ///
