@@ -7,6 +7,8 @@ import tempfile
 import time
 
 from night_trials.place import ENDS_WELL, NIGHTLY, USER, changed, environment
+from record_trials.steps import receive
+from sftpv3.codec import request
 from trials.disks import fill, small_disk
 from trials.processes import run
 
@@ -65,6 +67,8 @@ def hours_that_repeat(steps, place):
     """A date that is printed says which of two equal hours it means."""
     place.nightly()
     process = place.start()
+    process.stdin.write(request(1, "OPENDIR", b"/"))
+    receive(process, 4)
     said = []
     for seconds in TWICE:
         os.utime(place.state / USER / "compared", (seconds,) * 2)
@@ -128,12 +132,13 @@ fcntl.flock = flock
 
 
 def on_nfs(steps, place):
-    """A spool on NFS: sessions that have ended are judged, and those that run are waited for."""
+    """A spool on NFS: sessions that have ended are judged, and those that run so far."""
     place.begin("mkdir d")
     on_nfs = changed(place, ON_NFS)
     place.check(steps, "a spool on NFS: a session that has ended", 0, "1 session accepted; " + ENDS_WELL, script=on_nfs)
     process = place.start()
-    place.check(steps, "and one that runs", 1, "still running", "the folder is not compared", script=on_nfs)
+    place.check(steps, "and one that runs and has done nothing", 0, "accepted 0 requests so far; still running",
+                "the folder is as they left it", script=on_nfs)
     place.end(process)
     place.check(steps, "and when it has ended", 0, "1 session accepted; " + ENDS_WELL, script=on_nfs)
     place.session("rmdir d")
