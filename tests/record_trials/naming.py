@@ -174,7 +174,7 @@ def folders(steps, room):
 
 
 def times(steps, room):
-    from sftpv3.spool import sinks as form
+    from sftpv3.spool import clocks, sinks
     asked = INIT + b"".join(request(it, "STAT", b"/") for it in range(5))
     begin = time.time_ns()
     run(room, "--times", "t%%.times", "t", STUB, data=asked)
@@ -188,14 +188,14 @@ def times(steps, room):
     steps.check("its date is that of the session", begin <= date <= end)
     steps.check("its times do not fall, and are those of the session", found == sorted(found) and
                 date + found[-1] <= end + 1_000_000, str(found))
-    steps.check("what is written is read back", form.read_times(data) == (date, found) and
-                form.times_opening(date) + form.time_entries(found) == data)
-    steps.check("times may be equal", form.read_times(data[:16] + form.time_entries([4, 4])) == (date, [4, 4]))
-    for wrong in (b"", data[:12], b"x" + data[1:], data[:-3], data[:16] + form.time_entries([5, 4])):
+    steps.check("what is written is read back", clocks.read_times(data) == (date, found) and
+                sinks.times_opening(date) + sinks.time_entries(found) == data)
+    steps.check("times may be equal", clocks.read_times(data[:16] + sinks.time_entries([4, 4])) == (date, [4, 4]))
+    for wrong in (b"", data[:12], b"x" + data[1:], data[:-3], data[:16] + sinks.time_entries([5, 4])):
         try:
-            form.read_times(wrong)
+            clocks.read_times(wrong)
             steps.check("a times file that is cut, has another opening or falls is refused", False, str(wrong[:20]))
-        except form.Malformed:
+        except clocks.Malformed:
             steps.check("a times file that is cut, has another opening or falls is refused", True)
 
 

@@ -14,7 +14,7 @@ from record_trials.steps import (INIT, RECORD, STUB, TOP, close, errors, leave, 
 from sftpv3 import codec
 from sftpv3.codec import request
 from sftpv3.recorder.auditing import SCOPE, setting
-from sftpv3.spool import sinks
+from sftpv3.spool import clocks, sinks
 from trials.copies import copy_scripts
 from trials.processes import SOON, ended, executable, make_user, remove_user, run, wait_until
 
@@ -88,7 +88,7 @@ def timed(steps, room):
     receive(process, 21)
     steps.check("a session into a spool ends", leave(process) == 0, errors(process))
     (record,), (times,) = spool.records(), spool.times()
-    clock = sinks.clock_of(times.read_bytes())
+    clock = clocks.clock_of(times.read_bytes())
     moments = [clock.zero + it for it in clock.times]
     steps.check("its times are beside it, for their user alone", times.stem == record.stem and
                 stat.S_IMODE(times.stat().st_mode) == 0o600, times)
@@ -108,7 +108,7 @@ def timed(steps, room):
                 link.sendall(data)
                 link.recv(8)
         wait_until(lambda: spool.times() and spool.times()[0].stat().st_size >= 32)
-        steps.check(f"{name}: {count} times", len(sinks.clock_of(spool.times()[0].read_bytes()).times) == count)
+        steps.check(f"{name}: {count} times", len(clocks.clock_of(spool.times()[0].read_bytes()).times) == count)
     steps.check("the daemon ends", spool.end() == 0)
 
 

@@ -31,7 +31,7 @@ import tempfile
 from sftpv3.codec import wording
 from sftpv3.page import differing, document, exchanges, joint, sets
 from sftpv3.probe import verdicts
-from sftpv3.spool import sinks
+from sftpv3.spool import clocks
 from sftpv3.system import children, ending, program
 from sftpv3.system.parsers import Parser, number_from
 from sftpv3.system.standard import end
@@ -138,8 +138,8 @@ def times_of(name, count):
     with open(name, "rb") as file:
         data = file.read()
     try:
-        found = sinks.clock_of(data).times
-    except sinks.Malformed as error:
+        found = clocks.clock_of(data).times
+    except clocks.Malformed as error:
         raise exchanges.Bad(str(error), name) from None
     if len(found) < count:
         raise exchanges.Bad(f"it has {len(found):,} times, and the session {count:,} records", name)

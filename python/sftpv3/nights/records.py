@@ -16,7 +16,7 @@ from contextlib import suppress
 
 from sftpv3.codec import wording
 from sftpv3.recorder.packets import OPENING
-from sftpv3.spool.sinks import times_name
+from sftpv3.spool.names import times_name
 from sftpv3.system import mounted, naming, ways
 
 # The names that recorders give: none of them reads like a part of a line.

@@ -11,7 +11,8 @@ from typing import Dict, List, NamedTuple, Sequence
 from sftpv3.nights import accounts
 from sftpv3.nights.records import Copy, kept_name
 from sftpv3.nights.spans import ENTRY, HEAD, SECOND
-from sftpv3.spool.sinks import BOOT_OPENING, TIMES_OPENING, TRANSCRIPT
+from sftpv3.spool.names import TRANSCRIPT
+from sftpv3.spool.sinks import BOOT_OPENING, TIMES_OPENING
 from sftpv3.system import program
 
 TOGETHER = program.command("together")

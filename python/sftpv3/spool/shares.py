@@ -3,7 +3,7 @@ import os
 import time
 from contextlib import suppress
 
-from sftpv3.spool.sinks import TIMES, times_name
+from sftpv3.spool.names import TIMES, times_name
 from sftpv3.system import mounted, naming, ways
 
 # How many files a file system has to have left for a new record.

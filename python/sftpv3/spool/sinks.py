@@ -1,12 +1,10 @@
 """Where records go: files, pipes, a spool. A sink that has not written all is busy, and then nothing is passed on. And
 the file of times beside a transcript: when each record was there, as docs/FORMATS.md has it."""
 import os
-import re
 import select
 import struct
 import time
 
-from sftpv3.codec import kinds
 from sftpv3.system import ways
 
 # How what is sent to a spool begins: spool/keeping.py has its form.
@@ -20,8 +18,6 @@ SPOOL_PATIENCE = 10
 # A file of times of the second form says on which clock of which boot its times are.
 TIMES_OPENING, BOOT_OPENING = b"SFTPTM01", b"SFTPTM02"
 BOOT_ID, BOOT_BYTES = "/proc/sys/kernel/random/boot_id", 16
-# The name of a transcript, and with what the name of a file of times beside it ends in its place.
-TRANSCRIPT, TIMES = re.compile(r"(.*)\.transcript((?:\.[0-9a-f]+)?)", re.DOTALL), ".times"
 # How often the date is asked for, to have one between two close looks at the machine's own clock.
 TRIES = 5
 
@@ -243,12 +239,6 @@ class TimesSink:
         self.sink.put(time_entries([self.clock() - self.start] * count))
 
 
-def times_name(name):
-    """The name of the file of times beside a transcript of this name; None if no transcript is named like that."""
-    found = TRANSCRIPT.fullmatch(name)
-    return found and found[1] + TIMES + found[2]
-
-
 class BootTimesSink(TimesSink):
     """The same of the second form, whose times can be compared with those of other sessions of the machine: all are of
     one clock, which counts from the boot on."""
@@ -286,22 +276,6 @@ def boot_id():
     return found
 
 
-class Malformed(Exception):
-    """A file of times that cannot be read."""
-
-
-class Clock:
-    """What a file of times says: the boot, or None of the first form; the date of the start; what the machine's clock
-    said then, or None; and the time of each record from then on."""
-
-    def __init__(self, boot, date, zero, times):
-        self.boot, self.date, self.zero, self.times = boot, date, zero, times
-
-    def start(self):
-        """When the session began, on a clock that it shares with others: the machine's, or else the date."""
-        return self.date if self.zero is None else self.zero
-
-
 def times_opening(date):
     """The beginning of a file: the date of the start, in nanoseconds from 1970 on."""
     return TIMES_OPENING + struct.pack(">Q", date)
@@ -315,27 +289,3 @@ def boot_times_opening(boot, date, zero):
 def time_entries(times):
     """An entry for each record: nanoseconds from the start on, by a clock that is never set."""
     return struct.pack(f">{len(times)}Q", *times)
-
-
-def clock_of(data):
-    """What a file of times of either form says. Raises Malformed if it is cut, or a time is less than the one before
-    it, which no clock that is never set gives."""
-    is_of_boot = data[:8] == BOOT_OPENING
-    head = 16 + (BOOT_BYTES + 8) * is_of_boot
-    if data[:8] not in (TIMES_OPENING, BOOT_OPENING) or len(data) < head:
-        raise Malformed(kinds.mistaken(data, kinds.TIMES) or "the file has no times")
-    if len(data) % 8:
-        raise Malformed("the file ends inside an entry")
-    times = list(struct.unpack(f">{(len(data) - head) // 8}Q", data[head:]))
-    for number, (last, found) in enumerate(zip(times, times[1:]), 2):
-        if found < last:
-            raise Malformed(f"the time of record {number} is less than the one before")
-    if not is_of_boot:
-        return Clock(None, *struct.unpack(">Q", data[8:16]), None, times)
-    return Clock(data[8:8 + BOOT_BYTES], *struct.unpack(">2Q", data[8 + BOOT_BYTES:head]), times)
-
-
-def read_times(data):
-    """The date of the start, and the time of each record."""
-    clock = clock_of(data)
-    return clock.date, clock.times

@@ -5,7 +5,8 @@ import struct
 import time
 from contextlib import suppress
 
-from sftpv3.spool.sinks import (boot_clock, boot_id, boot_times_opening, date_and_zero, time_entries, times_name)
+from sftpv3.spool.names import times_name
+from sftpv3.spool.sinks import boot_clock, boot_id, boot_times_opening, date_and_zero, time_entries
 from sftpv3.system import ways
 
 # What precedes the fields of a record: the side and the packet's length; and the fewest bytes of a packet, which has a

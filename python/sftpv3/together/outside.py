@@ -4,9 +4,9 @@ from __future__ import annotations
 
 from sftpv3.codec import CLIENT, SERVER, kinds, packets, transcripts, trees
 from sftpv3.codec.fields import Fields, Malformed, string, uint32
-from sftpv3.spool.sinks import Clock
-from sftpv3.spool.sinks import Malformed as MalformedTimes
-from sftpv3.spool.sinks import clock_of
+from sftpv3.spool.clocks import Clock
+from sftpv3.spool.clocks import Malformed as MalformedTimes
+from sftpv3.spool.clocks import clock_of
 from sftpv3.system.parsers import Parser
 from sftpv3.system.program import NotBuilt, called, program
 
