@@ -13,6 +13,8 @@ pub(crate) enum Form<'a> {
     Flag,
     /// `VALUE`, which has to be given.
     Place(&'a str),
+    /// `VALUE`, any number of times.
+    Places(&'a str),
     /// `--NAME VALUE`, which has to be given.
     Required(&'a str),
     /// `--NAME VALUE`.
@@ -124,8 +126,13 @@ pub(crate) const AUDIT: &[Argument] = &[
     TREE,
     (
         "transcript",
-        Form::Required("FILE"),
+        Form::Optional("FILE"),
         "The transcript: the recorded packets of the session",
+    ),
+    (
+        "transcripts-from",
+        Form::Optional("LIST"),
+        "A file with the name of a transcript on each line; each is audited, and has a line of its own",
     ),
     (
         "out",
@@ -167,6 +174,11 @@ pub(crate) const AUDIT: &[Argument] = &[
     MEMORY,
     MODE,
     NO_SYNC,
+    (
+        "files",
+        Form::Places("FILE"),
+        "Transcripts; each is audited, and has a line of its own",
+    ),
 ];
 
 pub(crate) const INFER: &[Argument] = &[
@@ -239,7 +251,7 @@ pub(crate) const SHOW: &[Argument] = &[
     (
         "data",
         Form::Optional("N|all"),
-        "With --full or --json: cut each text after N bytes, 256 by default, or print all of it",
+        "With --full, --json or --exchanges: cut each text after N bytes, 256 by default, or print all",
     ),
     (
         "json",
@@ -275,6 +287,26 @@ pub(crate) const SHOW: &[Argument] = &[
         "pairs",
         Form::Flag,
         "Only requests, each followed by its reply, in the order of the replies",
+    ),
+    (
+        "exchanges",
+        Form::Flag,
+        "Print a request and its reply on one line, with each field by its name",
+    ),
+    (
+        "where",
+        Form::Optional("EXPRESSION"),
+        "Only requests, each with its reply, that meet this, such as 'READ && reply == EOF'",
+    ),
+    (
+        "handle-of",
+        Form::Optional("PATH"),
+        "Only OPENs and OPENDIRs of this path and requests through their handles, with their replies",
+    ),
+    (
+        "stat",
+        Form::Flag,
+        "Print how many requests of each kind there are, their bytes, and how long they took",
     ),
     (
         "overtaken",
