@@ -1,6 +1,7 @@
 //! Expressions, and whether an exchange meets one.
 
 use crate::fields::Name;
+use crate::kinds::PacketKind;
 use crate::tokens::Operator;
 use crate::values::{Exchange, Value, value_of};
 use bstr::ByteSlice;
@@ -43,8 +44,7 @@ pub struct Comparison {
 pub(crate) enum Wanted {
     Number(u64),
     Text(Vec<u8>),
-    /// The name of a packet.
-    Packet(&'static str),
+    Packet(PacketKind),
     /// The code of a STATUS.
     Code(u32),
     /// A flag of OPEN.
@@ -99,7 +99,7 @@ impl Comparison {
                 .orders(number, *wanted),
             (Value::Text(text), Wanted::Text(wanted)) => self.suits_text(text, wanted.as_slice()),
             (Value::Packet(name, _), Wanted::Packet(wanted)) => {
-                self.operator.suits(name == *wanted)
+                self.operator.suits(name == wanted.name())
             }
             (Value::Packet(_, code), Wanted::Code(wanted)) => {
                 self.operator

@@ -6,6 +6,7 @@ mod errors;
 mod expressions;
 mod fields;
 mod groups;
+mod kinds;
 mod parsing;
 mod scanning;
 mod tokens;

@@ -249,11 +249,11 @@ fn missing<'t>(name: Name) -> Fault<'t> {
 
 /// The condition that the name of a packet or of a code is: that of the request or of the reply.
 fn test_of(word: &str) -> Result<Test, Fault<'_>> {
-    if let Some(name) = words::request_named(word) {
-        return Ok(is_packet(ASKED, Wanted::Packet(name)));
+    if let Some(kind) = words::request_named(word) {
+        return Ok(is_packet(ASKED, Wanted::Packet(kind)));
     }
-    if let Some(name) = words::reply_named(word) {
-        return Ok(is_packet(REPLY, Wanted::Packet(name)));
+    if let Some(kind) = words::reply_named(word) {
+        return Ok(is_packet(REPLY, Wanted::Packet(kind)));
     }
     match words::code_named(word) {
         Some(code) => Ok(is_packet(REPLY, Wanted::Code(code))),

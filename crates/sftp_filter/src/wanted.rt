@@ -71,11 +71,11 @@ fn code_of(word: &str) -> Result<Wanted, Fault<'_>> {
 }
 
 fn packet_of(word: &str) -> Result<Wanted, Fault<'_>> {
-    if let Some(name) = words::request_named(word) {
-        return Ok(Wanted::Packet(name));
+    if let Some(kind) = words::request_named(word) {
+        return Ok(Wanted::Packet(kind));
     }
     match words::reply_named(word) {
-        Some(name) => Ok(Wanted::Packet(name)),
+        Some(kind) => Ok(Wanted::Packet(kind)),
         None => Err(unknown(word)),
     }
 }

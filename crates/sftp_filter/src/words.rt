@@ -1,41 +1,6 @@
 //! The names of packets, codes and flags, and names that are close to a word.
 
-/// The names of requests.
-const REQUESTS: [&str; 23] = [
-    "OPEN",
-    "CLOSE",
-    "READ",
-    "WRITE",
-    "LSTAT",
-    "FSTAT",
-    "SETSTAT",
-    "FSETSTAT",
-    "OPENDIR",
-    "READDIR",
-    "REMOVE",
-    "MKDIR",
-    "RMDIR",
-    "REALPATH",
-    "STAT",
-    "RENAME",
-    "READLINK",
-    "SYMLINK",
-    "EXTENDED",
-    "POSIX-RENAME",
-    "HARDLINK",
-    "FSYNC",
-    "LIMITS",
-];
-
-/// The names of replies.
-const REPLIES: [&str; 6] = [
-    "STATUS",
-    "HANDLE",
-    "DATA",
-    "NAME",
-    "ATTRS",
-    "EXTENDED_REPLY",
-];
+use crate::kinds::{PacketKind, REPLIES, REQUESTS};
 
 /// The codes of a STATUS with their names (draft, section 7).
 const CODES: [(&str, u32); 9] = [
@@ -60,13 +25,13 @@ const FLAGS: [(&str, u32); 6] = [
     ("EXCL", 0x20),
 ];
 
-/// The name of a request that a word is.
-pub(crate) fn request_named(word: &str) -> Option<&'static str> {
+/// The kind of request that a word names.
+pub(crate) fn request_named(word: &str) -> Option<PacketKind> {
     found_in(REQUESTS.as_slice(), word)
 }
 
-/// The name of a reply that a word is.
-pub(crate) fn reply_named(word: &str) -> Option<&'static str> {
+/// The kind of reply that a word names.
+pub(crate) fn reply_named(word: &str) -> Option<PacketKind> {
     found_in(REPLIES.as_slice(), word)
 }
 
@@ -80,10 +45,10 @@ pub(crate) fn flag_named(word: &str) -> Option<u32> {
     number_in(FLAGS.as_slice(), word)
 }
 
-fn found_in(names: &'static [&'static str], word: &str) -> Option<&'static str> {
-    for name in names {
-        if *name == word {
-            return Some(*name);
+fn found_in(kinds: &[PacketKind], word: &str) -> Option<PacketKind> {
+    for kind in kinds {
+        if kind.name() == word {
+            return Some(*kind);
         }
     }
     None
@@ -114,10 +79,10 @@ pub(crate) fn flag_close_to(word: &str) -> Option<&'static str> {
     close_to_number(FLAGS.as_slice(), word)
 }
 
-fn close_in(names: &'static [&'static str], word: &str) -> Option<&'static str> {
-    for name in names {
-        if is_close(word, name) {
-            return Some(*name);
+fn close_in(kinds: &[PacketKind], word: &str) -> Option<&'static str> {
+    for kind in kinds {
+        if is_close(word, kind.name()) {
+            return Some(kind.name());
         }
     }
     None
