@@ -282,8 +282,11 @@ fn ended<'a>(totals: Totals) -> Result<Ending, Failure<'a>>
     ensures { IsAuditStatus result }
 {
     let unjudged = totals.malformed.saturating_add(totals.unread);
-    if unjudged > 0 {
-        return Err(Failure::Unjudged(unjudged, totals.all, totals.unread == 0));
+    if totals.unread > 0 {
+        return Err(Failure::Unjudged(unjudged, totals.all, false));
+    }
+    if totals.malformed > 0 {
+        return Err(Failure::Unjudged(unjudged, totals.all, true));
     }
     if totals.refused > 0 {
         Ok(Ending::Refused)
