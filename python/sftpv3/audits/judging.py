@@ -82,8 +82,8 @@ class Judge:
     def is_of_recording(self, told: dict[str, Any]) -> bool:
         """Whether an object is what was printed of a recording, and not why no recording is judged."""
         error = told.get("error", {})
-        return "name" in told or "verdict" in told or \
-            error.get("kind") in ("transcript", "read", "memory") and error.get("file") != self.tree
+        return "name" in told or "verdict" in told or error.get("kind") in ("transcript", "memory") or \
+            error.get("kind") == "read" and error.get("file") != self.tree
 
     def why_failed(self, ran: Ran) -> tuple[str, int]:
         """Why a run that no signal ended did not judge all: it did not take its options, or not the tree."""
@@ -154,7 +154,8 @@ def how_ended(ran: Ran) -> str:
 def result_of(name: str, told: dict[str, Any], seconds: float) -> Result:
     """What is known of a recording from the object that was printed of it."""
     status = told.get("error", {}).get("status", {"accepted": ACCEPTED, "refused": REFUSED}.get(told.get("verdict")))
-    return Result(name, UNREAD if status is None else status, fields_of(told), seconds)
+    shown = inputs.SHOWN if name == inputs.WORD else name
+    return Result(shown, UNREAD if status is None else status, fields_of(told), seconds)
 
 
 def fields_of(told: dict[str, Any]) -> dict[str, Any]:

@@ -145,8 +145,8 @@ def audit(given):
 
 def merge(given):
     merged = merging.Merged()
-    for name in given.names:
-        with open(inputs.place_of(name), "rb") as file:
+    for name in map(inputs.place_of, given.names):
+        with open(name, "rb") as file:
             merged.read(name, file.read())
     report = Report(given, len(merged.results))
     for name in sorted(merged.results):
