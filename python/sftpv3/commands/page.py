@@ -59,7 +59,8 @@ def parser():
     found = Parser(prog=program.called("page"), usage=f"{program.called('page')} [OPTIONS] SESSION",
                    description=about[0] + "\n\n" + about[2], formatter_class=argparse.RawDescriptionHelpFormatter)
     add = found.add_argument
-    add("session", metavar="SESSION", help="the transcript, or the folder of a set; - is standard input, as for each FILE that is read")
+    add("session", metavar="SESSION",
+        help="the transcript, or the folder of a set; - is standard input, as for each FILE that is read")
     add("--tree", metavar="FILE", help="the tree file that the session started from; the session is then audited")
     add("--times", metavar="FILE", help="the times of the records, as `sftpv3-record --times` writes them; a set has "
                                         "them in its folder")
