@@ -27,6 +27,10 @@ MARKS = (
     (0, "compress", (b"\x1f\x9d",)))
 
 
+# The kinds of files of this project but for texts.
+OWN = (TRANSCRIPT, TREE, TIMES, ORDER)
+
+
 def kind_of(data: bytes) -> str | None:
     """What a file with these bytes is, or None."""
     if not data:
@@ -34,7 +38,12 @@ def kind_of(data: bytes) -> str | None:
     return next((TEXTS[word] for place, word, marks in MARKS if data.startswith(marks, place)), None)
 
 
-def mistaken(data: bytes, wanted: str) -> str | None:
+def named(data: bytes, wanted: str) -> str | None:
     """What is said of a file that is of another kind than the one that is wanted, or None."""
     found = kind_of(data)
     return None if found in (None, wanted) else f"it is {found}, not {wanted}"
+
+
+def mistaken(data: bytes, wanted: str) -> str | None:
+    """The same of a file of this project. Of another one, readers have the fault that the documents name."""
+    return named(data, wanted) if kind_of(data) in OWN else None

@@ -65,7 +65,7 @@ def bytes_of(name):
 def chosen(given, found, data):
     """The session that is asked for, of those that are found in a log of these bytes."""
     if not found:
-        raise Bad(kinds.mistaken(data, LOG) or "it has no session of sftp-server at the level DEBUG3")
+        raise Bad(data and kinds.named(data, LOG) or "it has no session of sftp-server at the level DEBUG3")
     if given.session is None and len(found) > 1:
         raise Bad(f"it has {len(found):,} sessions: choose one by --session N, as --list has them")
     if given.session is not None and given.session > len(found):

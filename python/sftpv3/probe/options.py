@@ -7,7 +7,7 @@ import stat
 import textwrap
 
 from sftpv3 import codec
-from sftpv3.codec import wording
+from sftpv3.codec import kinds, wording
 from sftpv3.page import exchanges
 from sftpv3.peer import servers
 from sftpv3.peer.options import count, flying, pause, positive, seconds
@@ -33,6 +33,10 @@ MOST_JOBS = 1000
 
 # How many clients may play at once, and the requests of small scenes in a session without them.
 MOST_CLIENTS, REQUESTS = 8, 60
+
+
+# What the files of these options have to be.
+READ = {"--tree": kinds.TREE, "--session": kinds.TRANSCRIPT}
 
 
 class Wrong(Exception):
@@ -228,11 +232,16 @@ def read(option, name, reader):
         if not is_inherited(name):
             exchanges.check(name)
         with open(name, "rb") as file:
-            return reader(file.read())
+            data = file.read()
     except OSError as error:
         raise Wrong(f"{option}: {program.told(error)}") from error
-    except (codec.Malformed, exchanges.Bad) as error:
+    except exchanges.Bad as error:
         raise Wrong(f"{option}: {wording.line(inputs.shown(name))}: {error}") from error
+    try:
+        return reader(data)
+    except codec.Malformed as error:
+        why = kinds.named(data, READ[option]) or error
+        raise Wrong(f"{option}: {wording.line(inputs.shown(name))}: {why}") from error
 
 
 def is_writable_at(path, is_made):

@@ -14,7 +14,7 @@ from sftpv3.together.checking import Place
 from sftpv3.together.deeds import Deed
 from sftpv3.together.options import (ACCEPTED, FAILED, REFUSED, STEPS, STEPS_EACH, TOLERANCE_OF_DATES, UNDECIDED,
                                      USAGE, options, tell)
-from sftpv3.together.outside import Malformed, NotBuilt, place_of, put, trees
+from sftpv3.together.outside import Malformed, NotBuilt, kinds, place_of, put, trees
 from sftpv3.together.sets import TIMES, TRANSCRIPT, Unfit, read_set
 from sftpv3.together.states import State
 
@@ -217,7 +217,9 @@ def read_tree(name: str) -> trees.Tree:
     try:
         return trees.read(name)
     except Malformed as error:
-        raise Unfit(f"{name}: {error}") from None
+        with open(name, "rb") as file:
+            why = kinds.named(file.read(512), kinds.TREE) or error
+        raise Unfit(f"{name}: {why}") from None
 
 
 def main(about: str) -> int:
