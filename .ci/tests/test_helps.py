@@ -109,6 +109,24 @@ sys.argv[0] = {script!r}
 runpy.run_path({script!r}, run_name="__main__")
 """
 
+# Prints what a script says of a value that no option takes which reads its value.
+READS = """
+import argparse, runpy, sys
+from sftpv3.system.parsers import Parser
+def try_values(parser, *_):
+    for action in parser._actions:
+        if action.type and action.option_strings:
+            try:
+                parser._get_value(action, "x!y")
+            except argparse.ArgumentError as error:
+                print(error)
+    raise SystemExit(0)
+Parser.parse_args = Parser.parse_known_args = try_values
+script = sys.argv[1]
+sys.argv = [script, "--help"]
+runpy.run_path(script, run_name="__main__")
+"""
+
 # A test script, and `.ci/pages`, that a user interrupts.
 QUIET = """
 import sys
@@ -209,6 +227,24 @@ def failed(script: Path) -> str:
     return "" if status == 3 and "ValueError: unforeseen\n" in said else f"status {status}, {said[-300:]!r}"
 
 
+def to_nobody(script: Path) -> str:
+    """Returns what is wrong with a script that says what it is for, or its version, to a pipe that nobody reads."""
+    reader, writer = os.pipe()
+    os.close(reader)
+    with os.fdopen(writer, "wb") as pipe:
+        for word in ("--help", "--version"):
+            ran = run([script, word], stdout=pipe)
+            if ran.returncode or ran.stderr:
+                return f"{word}: status {ran.returncode}, {ran.stderr[-200:]!r}"
+    return ""
+
+
+def values_said(script: Path) -> str:
+    """What a script says of wrong values, a line for each option."""
+    ran = run([sys.executable, "-B", "-c", READS, script], stdout=subprocess.PIPE)
+    return ran.stdout.decode() + ran.stderr.decode()
+
+
 def wrong_to_full(script: Path) -> str:
     """Returns what is wrong with the status of a script that got wrong words, and whose standard error is a full
     disk."""
@@ -300,6 +336,17 @@ class Helps(unittest.TestCase):
 
     def test_each_script_says_that_it_cannot_print(self):
         self.no_mistakes(to_full, scripts() + servers())
+
+    def test_no_command_says_that_nobody_reads_what_it_prints(self):
+        self.no_mistakes(to_nobody, commands())
+
+    def test_no_message_on_a_value_names_a_function(self):
+        def mistake(script):
+            said = values_said(script)
+            return said if re.search("invalid .* value|Traceback", said) else ""
+        self.no_mistakes(mistake, commands())
+        # so that a test of nothing is none
+        self.assertGreater(len(values_said(TOP / "clients/probe").splitlines()), 12)
 
     def test_an_interrupt_ends_each_command_while_it_imports(self):
         self.no_mistakes(interrupted, commands() + servers())

@@ -10,11 +10,15 @@ import struct
 import subprocess
 import termios
 from dataclasses import dataclass, field
+from pathlib import Path
 
 from runner.refusing import Refusal
 
 # How long a run may take.
 SECONDS = 120
+
+# What the names of scripts begin with where they are installed, and where they are here.
+SCRIPT, SCRIPTS = "sftpv3-", Path(__file__).resolve().parents[2] / "clients"
 
 # No process writes a file beyond this byte. A stream with room for N bytes begins N bytes before it.
 END_OF_FILES = 2**33
@@ -33,11 +37,13 @@ class Came:
 @dataclass
 class Asked:
     """What a run is given besides its words: its input, and the size of the pieces in which it comes, if it does; which
-    streams have room for so many bytes; which are full; and to which the kernel refuses to write for want of memory."""
+    streams have room for so many bytes; which are full; which nobody reads; and to which the kernel refuses to write
+    for want of memory."""
     input: bytes = b""
     size: int | None = None
     room: dict[int, int] = field(default_factory=dict)
     full: set[int] = field(default_factory=set)
+    unread: set[int] = field(default_factory=set)
     refused: set[int] = field(default_factory=set)
 
 
@@ -84,6 +90,8 @@ class Program:
         self.file = file
         self.streams = [os.memfd_create(it) for it in ("input", "output", "errors")]
         self.full = os.open("/dev/full", os.O_WRONLY)
+        reader, self.unread = os.pipe()
+        os.close(reader)
         resource.setrlimit(resource.RLIMIT_FSIZE, (END_OF_FILES, resource.getrlimit(resource.RLIMIT_FSIZE)[1]))
         signal.signal(signal.SIGALRM, be_late)
 
@@ -98,12 +106,19 @@ class Program:
         file = self.streams[stream]
         return os.pread(file, max(os.fstat(file).st_size - start, 0), start)
 
+    def sink(self, stream: int, asked: Asked) -> int:
+        if stream in asked.unread:
+            return self.unread
+        return self.full if stream in asked.full else self.streams[stream]
+
     def start(self, words: list[str], asked: Asked) -> subprocess.Popen:
-        sinks = [self.full if it in asked.full else self.streams[it] for it in (OUTPUT, ERRORS)]
         source = self.streams[0] if asked.size is None else subprocess.PIPE
+        is_script = words[0].startswith(SCRIPT)
+        file = str(SCRIPTS / words[0].removeprefix(SCRIPT)) if is_script else self.file
         # SIGPIPE and SIGXFSZ stay ignored, so that a write fails in place of the process
-        return subprocess.Popen(words, executable=self.file, stdin=source, stdout=sinks[0], stderr=sinks[1],
-                                bufsize=0, restore_signals=False, close_fds=True,
+        return subprocess.Popen(words, executable=file, stdin=source, stdout=self.sink(OUTPUT, asked),
+                                stderr=self.sink(ERRORS, asked), bufsize=0, restore_signals=False, close_fds=True,
+                                env={**os.environ, "SFTPV3": self.file} if is_script else None,
                                 preexec_fn=Refusal(sorted(asked.refused)) if asked.refused else None)
 
     def status_of(self, process: subprocess.Popen, asked: Asked) -> int:

@@ -86,6 +86,8 @@ def break_stream(state: State, block: Block, text: list[str]) -> None:
         raise Stop("`output` or `errors`")
     if when == "flush":
         state.asked.full.add(STREAMS[name])
+    elif when == "closed":
+        state.asked.unread.add(STREAMS[name])
     elif when == "memory":
         state.asked.refused.add(STREAMS[name])
     else:

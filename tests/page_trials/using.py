@@ -55,8 +55,8 @@ def figures(steps, folder):
         ["100", f"{asked:,}", f"{100 * 21:,}"], ["0.050", "0.099", "0.100"]], cells_of(text, "STAT"))
     steps.check("figures of two READs", cells_of(text, "READ")[0][0] == "2" and
                 cells_of(text, "READ")[1] == ["0.009", "0.030", "0.030"], cells_of(text, "READ"))
-    steps.check("the summary counts all", "Figures: 104 requests of 4 kinds, 2 in flight at most" in text,
-                re.findall("Figures:[^<]*", text))
+    steps.check("the summary counts all", "Figures: 104 requests of 4 kinds, 2 in flight and 1 handle open at most" in
+                text, re.findall("Figures:[^<]*", text))
     slow = re.findall(r"<li>([\d.]+) ms: <b>(\w+)</b>[^<]*<a href=\"#(d1a-\d+)\">", text)
     steps.check("the ten slowest, with links", slow == [(f"0.{number:03}", "STAT", f"d1a-{2 * number + 1}")
                                                         for number in range(100, 90, -1)], slow)
@@ -155,6 +155,32 @@ def keys(steps, folder):
         steps.check("ArrowUp leads back", opened.run("document.activeElement.closest('.row').id") == "d1a-205")
 
 
+def of_sets(steps, folder):
+    """The page of a set has the same figures and the same filter: the handles of two sessions are open together, and
+    the filter has a field more."""
+    shared = [trees.Entry(b"/f", trees.FILE, b"", 0, 0, 0o644)]
+    sessions = {name: Session().ask(at, at + 5, ("OPEN", b"/f", READ, {}), ("HANDLE", HANDLE))
+                .ask(at + 300, at + 310, ("CLOSE", HANDLE), OK) for name, at in (("a", 100), ("b", 200))}
+    sets.put(folder, sessions, entries=shared)
+    _, _, text = of_set(folder)
+    steps.check("figures of a set", "Figures: 4 requests of 2 kinds, 1 in flight and 2 handles open at most" in text,
+                re.findall("Figures:[^<]*", text))
+    if not checked.chromium():
+        steps.skip("the filter of a set in Chromium", "it is not installed")
+        return
+    with browser.browser() as opened:
+        opened.show(os.path.join(folder, "set.html"))
+        for words, rows in (("session:a", 2), ("kind:CLOSE", 2), ("session:b kind:OPEN", 1), ("code:EOF", 0)):
+            found = filtered(opened, words)
+            steps.check(f"the filter {words!r} of a set", found == (f"{rows} of 4 requests match.", rows, rows), found)
+        filtered(opened, "session:b")
+        opened.press("Tab")
+        first = opened.run("document.activeElement.closest('.row').dataset.session")
+        opened.press("Enter")
+        steps.check("by keys alone: Tab leads to the first row of the session, and Enter opens it", first == "b" and
+                    opened.run("document.activeElement.parentNode.open") is True, first)
+
+
 def names(steps, folder):
     """All that can be focused has a name, headings leave out no level, and texts can be read, dark and light."""
     late = Session().ask(1039, 1200, ("OPEN", b"/lock", READ, {}), ("HANDLE", HANDLE))
@@ -200,4 +226,4 @@ def in_chromium(trial):
     return tried
 
 
-TRIALS = (figures, wrong_times, *map(in_chromium, (filters, long_filters, keys, names)))
+TRIALS = (figures, wrong_times, of_sets, *map(in_chromium, (filters, long_filters, keys, names)))

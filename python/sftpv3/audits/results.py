@@ -14,9 +14,6 @@ from sftpv3.codec import kinds, wording
 ACCEPTED, REFUSED, MALFORMED, UNREAD = range(4)
 WORDS = {ACCEPTED: "accepted", REFUSED: "refused", MALFORMED: "malformed", UNREAD: "unread"}
 
-# What a file is that is no transcript, by the words of the audit.
-FOUND = {"tree": kinds.TREE, "transcript": kinds.TRANSCRIPT, "empty": "empty"}
-
 
 class Result:
     """What is known of a recording. `told` is what the audit printed as JSON."""
@@ -32,7 +29,8 @@ class Result:
         if self.status == REFUSED:
             return f"refused record {told.get('record')}: {told.get('kind')}"
         more = f": {told['reason']}" if "reason" in told else ""
-        more += f"; it is {FOUND[told['found']]}, not a transcript" if told.get("found") in FOUND else ""
+        found = kinds.TEXTS.get(str(told.get("found")))
+        more += f"; it is {found}, not {kinds.TRANSCRIPT}" if found else ""
         return f"{told.get('message', 'no verdict')}{more}"
 
     def line(self) -> str:
@@ -90,6 +88,10 @@ class Summary:
 
     def count(self) -> int:
         return sum(self.statuses.values())
+
+    def others(self) -> int:
+        """How many are not accepted."""
+        return self.count() - self.statuses[ACCEPTED]
 
     def status(self) -> int:
         """The worst."""

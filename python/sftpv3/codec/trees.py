@@ -245,7 +245,7 @@ class Reader:
 
     def tree(self) -> Tree:
         opening = self.fields.data[:len(OPENING)]
-        if why := kinds.mistaken(opening, kinds.TREE):
+        if why := kinds.mistaken(self.fields.data, kinds.TREE):
             raise Malformed(why, "Magic")
         self.judge(opening in (OPENING, OPENING_WITH_LIMITS, OPENING_WIDE), "Magic")
         self.fields.take(len(OPENING))

@@ -28,7 +28,8 @@ begin()
 import argparse
 
 from sftpv3.audits import judging, merging, recordings, results
-from sftpv3.system import ending, files, program
+from sftpv3.system import ending, files, inputs, program
+from sftpv3.system.progress import Progress
 from sftpv3.system.parsers import Parser, count
 from sftpv3.system.standard import end
 from sftpv3.system.ways import named_twice
@@ -52,6 +53,8 @@ def parser():
         help="how many recordings are audited at a time (one for each processor)")
     add("--share", metavar="I/N", type=recordings.share,
         help="audit only the Ith of N shares of the recordings, as one of N machines")
+    add("--progress", action="store_true",
+        help="say how far the run is, also where standard error is no terminal")
     add("--json", action="store_true", help="print a line of JSON for each recording, and one that counts them")
     add("--junit", metavar="FILE", help="write a report in the form of JUnit, too")
     add("--merge", action="store_true", help="read reports of --json, and print one of all of them")
@@ -83,20 +86,32 @@ def options():
     return given
 
 
+# After how many seconds a run says how far it is.
+SILENT = 2
+
+
 class Report:
     """What is printed of results as they come, and what is written at the end."""
 
-    def __init__(self, given):
-        self.given, self.kept, self.summary = given, [], results.Summary()
+    def __init__(self, given, count):
+        self.given, self.kept, self.summary, self.count = given, [], results.Summary(), count
+        # lines on a terminal say themselves how far the run is
+        is_seen = sys.stderr.isatty() and not sys.stdout.isatty()
+        self.progress = Progress("audits", silent=SILENT) if given.progress or is_seen else None
 
     def add(self, result):
         self.summary.add(result)
         say(result.as_json() if self.given.json else result.line())
         if self.given.junit:
             self.kept.append(result)
+        if self.progress:
+            self.progress.say(f"{self.summary.count():,} of {self.count:,} recordings, {self.summary.others():,} of "
+                              "them not accepted")
 
     def end(self):
         """Prints the summary, and writes the report. The status is the worst."""
+        if self.progress:
+            self.progress.clear()
         say(self.summary.as_json(self.given.share) if self.given.json else self.summary.text())
         if self.given.junit:
             files.write_text(self.given.junit, results.junit(self.kept, self.summary))
@@ -118,22 +133,22 @@ def audit(given):
     names = recordings.named(given.names, given.transcripts_from)
     if given.share:
         names = given.share.of(names)
-    report, judge = Report(given), judging.Judge(given.tree, given.options)
+    report = Report(given, len(names))
     if not names:
         # there are fewer recordings than shares
         report.end()
         return results.ACCEPTED
-    for result in judging.each(judge, names, given.jobs):
+    for result in judging.each(judging.Judge(given.tree, given.options), names, given.jobs):
         report.add(result)
     return report.end()
 
 
 def merge(given):
     merged = merging.Merged()
-    for name in given.names:
+    for name in map(inputs.place_of, given.names):
         with open(name, "rb") as file:
             merged.read(name, file.read())
-    report = Report(given)
+    report = Report(given, len(merged.results))
     for name in sorted(merged.results):
         report.add(merged.results[name])
     report.end()

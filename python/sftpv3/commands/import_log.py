@@ -23,15 +23,19 @@ from sftpv3.system.standard import begin
 begin()
 import argparse
 
-from sftpv3.codec import wording
+from sftpv3.codec import kinds, wording
 from sftpv3.logs import messages, telling
-from sftpv3.system import files, program
+from sftpv3.system import files, inputs, program
 from sftpv3.system.parsers import Parser, count
 from sftpv3.system.standard import end
 
 HEAD = """# From a log of OpenSSH's sftp-server ({name}), by sftpv3-import-log. This is no record: a log has what
 # a server said that it did, and not what it sent. Where a line says what is not in the log, ? or 0 stands for it.
 """
+
+
+# What the file has to be.
+LOG = "a log of sftp-server"
 
 
 class Bad(Exception):
@@ -51,17 +55,17 @@ def parser():
     return found
 
 
-def lines_of(name):
-    if name == "-":
-        return sys.stdin.buffer.read().splitlines()
+def bytes_of(name):
+    if name == inputs.WORD:
+        return sys.stdin.buffer.read()
     with open(name, "rb") as file:
-        return file.read().splitlines()
+        return file.read()
 
 
-def chosen(given, found):
-    """The session that is asked for."""
+def chosen(given, found, data):
+    """The session that is asked for, of those that are found in a log of these bytes."""
     if not found:
-        raise Bad("it has no session of sftp-server at the level DEBUG3")
+        raise Bad(data and kinds.named(data, LOG) or "it has no session of sftp-server at the level DEBUG3")
     if given.session is None and len(found) > 1:
         raise Bad(f"it has {len(found):,} sessions: choose one by --session N, as --list has them")
     if given.session is not None and given.session > len(found):
@@ -79,18 +83,19 @@ def text_of(session):
 
 
 def make(given):
-    found = messages.sessions(lines_of(given.log))
+    data = bytes_of(given.log)
+    found = messages.sessions(data.splitlines())
     if given.process is not None:
         found = [it for it in found if it.process == str(given.process).encode()]
     if given.list:
         for number, session in enumerate(found, 1):
             program.say(f"{number}: {session.name()}")
         return
-    text, teller = text_of(chosen(given, found))
+    text, teller = text_of(chosen(given, found, data))
     if given.out:
         files.write_text(given.out, text)
     else:
-        sys.stdout.write(text)
+        program.put(lambda: print(text, end="", flush=True))
     program.tell(f"{os.path.basename(program.called('import-log'))}: {teller.requests:,} requests; in "
                  f"{teller.incomplete:,} places the log does not say all")
 
@@ -100,11 +105,12 @@ def main():
     try:
         make(given)
     except Bad as error:
-        return program.complain("import-log", f"{given.log}: {error}", 2)
+        name = inputs.SHOWN if given.log == inputs.WORD else wording.line(given.log)
+        return program.complain("import-log", f"{name}: {error}", 2)
     except OSError as error:
         return program.complain("import-log", program.told(error), 3)
     return 0
 
 
 def run():
-    sys.exit(end(main, lambda why: program.complain("import-log", why, 3)))
+    sys.exit(end(main, lambda why: program.complain("import-log", why, 3), unread=0))

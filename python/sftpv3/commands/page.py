@@ -25,6 +25,7 @@ from sftpv3.system.standard import begin
 
 begin()
 import argparse
+import io
 import resource
 import tempfile
 
@@ -32,7 +33,7 @@ from sftpv3.codec import wording
 from sftpv3.page import differing, document, exchanges, joint, sets
 from sftpv3.probe import verdicts
 from sftpv3.spool import clocks
-from sftpv3.system import children, ending, program
+from sftpv3.system import children, ending, inputs, program
 from sftpv3.system.parsers import Parser, number_from
 from sftpv3.system.standard import end
 from sftpv3.system.ways import named_twice
@@ -43,13 +44,14 @@ from sftpv3.together.sets import Unfit
 LEAST, MOST = 1 << 28, 1 << 62
 
 
+# The options and the argument that name files which are read.
+READ = ("session", "tree", "times", "order")
+
+
 def record(text):
     """A record, as its number, or as NAME:NUMBER in a set; the name is None of a session."""
     name, _, number = text.rpartition(":")
-    found = int(number)
-    if not 1 <= found < MOST:
-        raise ValueError(text)
-    return name or None, found
+    return name or None, number_from(1, MOST)(number)
 
 
 def parser():
@@ -57,7 +59,8 @@ def parser():
     found = Parser(prog=program.called("page"), usage=f"{program.called('page')} [OPTIONS] SESSION",
                    description=about[0] + "\n\n" + about[2], formatter_class=argparse.RawDescriptionHelpFormatter)
     add = found.add_argument
-    add("session", metavar="SESSION", help="the transcript, or the folder of a set")
+    add("session", metavar="SESSION",
+        help="the transcript, or the folder of a set; - is standard input, as for each FILE that is read")
     add("--tree", metavar="FILE", help="the tree file that the session started from; the session is then audited")
     add("--times", metavar="FILE", help="the times of the records, as `sftpv3-record --times` writes them; a set has "
                                         "them in its folder")
@@ -86,7 +89,7 @@ def judged(given, records):
         auditor.options += ["--memory", str(given.memory)]
         auditor.options += program.profile_words(given)
         verdict = auditor.judge(given.tree, records)
-    said = [("tree", wording.line(given.tree)), ("verdict", verdict.text)]
+    said = [("tree", shown(given.tree)), ("verdict", verdict.text)]
     if auditor.options[2:]:
         said.append(("options", " ".join(auditor.options[2:])))
     return said, None if verdict.accepted else of_refusal(records, verdict)
@@ -104,16 +107,24 @@ def of_refusal(records, verdict):
 
 def make(given):
     """Writes the page. Gives what is wrong with the transcript behind the records that it has, or None."""
+    for name in READ:
+        if getattr(given, name):
+            setattr(given, name, inputs.place_of(getattr(given, name)))
     if given.tree:
         exchanges.check(given.tree)
     text, fault = (page_of_set(given), None) if sets.is_set(given.session) else page_of_session(given)
     if given.out == "-":
-        sys.stdout.buffer.write(text.encode("utf-8", "backslashreplace"))
+        program.put_file(io.BytesIO(text.encode("utf-8", "backslashreplace")))
         return fault
     document.write(given.out, text)
     if not fault:
         print(wording.line(f"wrote {given.out}"))
     return fault
+
+
+def shown(name):
+    """The name of a file, for the page."""
+    return wording.line(inputs.shown(name))
 
 
 def page_of_session(given):
@@ -128,7 +139,7 @@ def page_of_session(given):
     said, difference = judged(given, records) if given.tree else ([], None)
     centre = [number - 1] if number else []
     said += [("fault", fault)] if fault else []
-    text = document.page_of_session(wording.line(given.session), records, said, difference, centre, given.around, times)
+    text = document.page_of_session(shown(given.session), records, said, difference, centre, given.around, times)
     return text, fault
 
 
@@ -158,9 +169,9 @@ def page_of_set(given):
     said = [("options", " ".join(words))] if words else []
     if given.tree:
         verdict, order = joint.judged(given.session, given.tree, given.order, words)
-        said.insert(0, ("tree", wording.line(given.tree)))
+        said.insert(0, ("tree", shown(given.tree)))
     elif given.order:
-        said.append(("order", f"{wording.line(given.order)}, which nothing judged"))
+        said.append(("order", f"{shown(given.order)}, which nothing judged"))
     why = found.put_order(order) if order else None
     said += [("the order", f"{why}; it is shown as far as that")] if why else []
     marks = joint.marks(found, verdict) if verdict else {}
@@ -203,7 +214,8 @@ def options():
     """The command line as it was given. Wrong usage ends the program."""
     found = parser()
     given = found.parse_args()
-    given.out = given.out or f"{os.path.basename(os.path.normpath(given.session))}.html"
+    session = inputs.SHOWN.replace(" ", "-") if given.session == inputs.WORD else given.session
+    given.out = given.out or f"{os.path.basename(os.path.normpath(session))}.html"
     names = [("SESSION", given.session), ("--tree", given.tree), ("--times", given.times), ("--order", given.order),
              ("-o", None if given.out == "-" else given.out)]
     if twice := named_twice(names, may_be_one=("SESSION", "--tree", "--times", "--order")):
@@ -235,12 +247,14 @@ def main():
         return program.complain("page", f"{given.session}: {too_little(None)}", 3)
     except MemoryError:
         return program.complain("page", f"{given.session}: {too_little(lower)}", 3)
+    except verdicts.Misused as error:
+        return program.complain("page", program.one_line(error), 2)
     except verdicts.Trouble as error:
-        return program.complain("page", "; ".join(str(error).splitlines()), error.status)
+        return program.complain("page", program.one_line(error), error.status)
     except (program.NotBuilt, OSError) as error:
         return program.complain("page", program.told(error), 3)
     return 0
 
 
 def run():
-    sys.exit(end(main, lambda why: program.complain("page", why, 3)))
+    sys.exit(end(main, lambda why: program.complain("page", why, 3), unread=0))

@@ -22,13 +22,12 @@ import argparse
 import errno
 import grp
 import pwd
-import shutil
 import tempfile
 from contextlib import ExitStack, suppress
 
 from sftpv3.codec import wording
 from sftpv3.system import ending, program, temporary
-from sftpv3.system.parsers import Parser
+from sftpv3.system.parsers import Parser, number_from, octal, one_of
 from sftpv3.system.replacing import Replacing
 from sftpv3.system.standard import end
 from sftpv3.system.ways import Way
@@ -36,14 +35,6 @@ from sftpv3.tree.looking import Trouble, View, names
 from sftpv3.tree.writing import Owner, Wanted, write
 
 NAME = os.path.basename(program.called("tree"))
-
-
-def permissions(text):
-    """Permissions in octal digits."""
-    value = int(text, 8)
-    if value > 0o777:
-        raise ValueError(text)
-    return value
 
 
 def place(text):
@@ -59,7 +50,7 @@ def options():
                     formatter_class=argparse.RawDescriptionHelpFormatter)
     add = parser.add_argument
     add("--out", metavar="TREE", help="the tree file to write, replaced whole (standard output)")
-    add("--mode", metavar="OCTAL", type=permissions, default=0o600, help="the permissions of the tree file (0600)")
+    add("--mode", metavar="OCTAL", type=octal, default=0o600, help="the permissions of the tree file (0600)")
     add("--chroot", action="store_true", help="the folder is the root that clients see")
     add("--without-mounts", action="store_true",
         help="leave out what is mounted below a folder; a mounted directory is there, and empty (what another user "
@@ -69,12 +60,12 @@ def options():
     add("--home", metavar="PLACE", type=place,
         help="where relative paths start, as clients see it (the user's home; with --chroot /, unless the folder has "
              "the home)")
-    add("--limits", choices=["usual", "raised", "most", "fit"], default="fit", metavar="WHICH",
+    add("--limits", type=one_of("usual", "raised", "most", "fit"), default="fit", metavar="WHICH",
         help="the tree's limits: usual, raised, most, or fit: the lowest that hold it, none below the usual (fit)")
-    add("--special", choices=["file", "skip", "refuse"], default="file", metavar="WHAT",
+    add("--special", type=one_of("file", "skip", "refuse"), default="file", metavar="WHAT",
         help="sockets, FIFOs and devices, each of which is named: make each an empty file with its owner and "
              "permissions, skip them, or refuse the folder (file)")
-    add("--most", metavar="BYTES", type=int, default=1 << 34,
+    add("--most", metavar="BYTES", type=number_from(0), default=1 << 34,
         help="the most bytes of the tree file (paths, and files with their holes), and of the names that are held "
              "meanwhile (17179869184)")
     add("folders", metavar="FOLDER", nargs="+", help="a folder that clients see")
@@ -136,8 +127,7 @@ def print_tree(given):
     with tempfile.TemporaryFile(dir=temporary.folder()) as file:
         written = write_into(given, file)
         file.seek(0)
-        shutil.copyfileobj(file, sys.stdout.buffer)
-        sys.stdout.buffer.flush()
+        program.put_file(file)
     return written
 
 

@@ -41,7 +41,7 @@ from sftpv3.peer.servers import is_crash
 from sftpv3.spool import sinks
 from sftpv3.system import ending, naming, program, temporary
 from sftpv3.system.replacing import Replacing
-from sftpv3.system.standard import end, left_unsaid
+from sftpv3.system.standard import end
 from sftpv3.system.ways import end_of, is_one_file
 from sftpv3.walk import bounds, looking, options, remains, sessions
 
@@ -157,15 +157,8 @@ def put_in_place(made, name):
 
 
 def print_tree(place):
-    try:
-        with open(place, "rb") as file:
-            shutil.copyfileobj(file, sys.stdout.buffer)
-        sys.stdout.buffer.flush()
-    except BrokenPipeError:
-        raise
-    except OSError as error:
-        left_unsaid(sys.stdout)
-        raise naming.NotMade(f"standard output: {error.strerror}") from None
+    with open(place, "rb") as file:
+        program.put_file(file)
 
 
 def known_by(found):
@@ -240,9 +233,6 @@ def attempt(given, folder):
     """Walks, and says why if there is no tree. Gives the status."""
     try:
         return record_and_make(given, folder)
-    except BrokenPipeError:
-        os.dup2(os.open(os.devnull, os.O_WRONLY), sys.stdout.fileno())
-        tell("standard output was closed")
     except (bounds.Misbehaves, Absent) as error:
         tell(f"{error}; no tree is written")
     except MemoryError:

@@ -157,7 +157,7 @@ def read(name, most):
     None if all are right."""
     data = contents(name, most)
     if not data.startswith(codec.OPENING):
-        raise Bad(kinds.mistaken(data, kinds.TRANSCRIPT) or
+        raise Bad(kinds.named(data, kinds.TRANSCRIPT) or
                   f"it is no transcript: it does not begin with {codec.OPENING.decode()}")
     records = list(itertools.takewhile(lambda record: record[0] in SIDES, codec.records(data)))
     if [(side, packet[4:5]) for side, packet in records[:2]] != [(b"C", b"\x01"), (b"S", b"\x02")]:

@@ -3,10 +3,12 @@ flight, and the slowest; and the HTML of that."""
 from __future__ import annotations
 
 import heapq
-from collections.abc import Callable, Iterable
+import itertools
+from collections.abc import Callable, Iterable, Iterator
 from dataclasses import dataclass, field
 from typing import Any
 
+from sftpv3 import codec
 from sftpv3.codec import wording
 from sftpv3.page.picture import counted, safe
 
@@ -54,15 +56,24 @@ class Kind:
 @dataclass
 class Figures:
     """The kinds, those with the most requests first; all of them together; the slowest requests; and how many were in
-    flight at most."""
+    flight, and how many handles were open, at most."""
 
     kinds: list[Kind]
     every: Kind
     slowest: list[Measured]
     in_flight: int
+    handles: int
 
 
-def figures(requests: Iterable[Measured], in_flight: int) -> Figures:
+def change_of(asked: str, answered: str, code: int | None) -> int:
+    """By how many the handles that are open change with a reply: by their names, and the code of a STATUS."""
+    if answered == "HANDLE":
+        return 1
+    return -1 if (asked, code) == ("CLOSE", codec.OK) else 0
+
+
+def figures(requests: Iterable[Measured], in_flight: int, changes: Iterable[int]) -> Figures:
+    """`changes` are those of the open handles, in the order of the replies."""
     kinds: dict[str, Kind] = {}
     every, timed = Kind(ALL), []
     for one in requests:
@@ -73,7 +84,8 @@ def figures(requests: Iterable[Measured], in_flight: int) -> Figures:
     for kind in (every, *kinds.values()):
         kind.waited.sort()
     ordered = sorted(kinds.values(), key=lambda kind: (-kind.count, kind.name))
-    return Figures(ordered, every, heapq.nlargest(SLOWEST, timed, key=lambda one: one.seconds), in_flight)
+    slow = heapq.nlargest(SLOWEST, timed, key=lambda one: one.seconds)
+    return Figures(ordered, every, slow, in_flight, max(itertools.accumulate(changes), default=0))
 
 
 def of_session(session) -> Figures:
@@ -86,7 +98,14 @@ def of_session(session) -> Figures:
             return Measured(wording.kind_of(side, data), len(data), 0, None, one)
         seconds = times[one.reply] - times[one.request] if times else None
         return Measured(wording.kind_of(side, data), len(data), len(records[one.reply][1]), seconds, one)
-    return figures(map(measured, session.exchanges), max(session.in_flight, default=0))
+
+    def changes() -> Iterator[int]:
+        answered = (one for one in session.exchanges if one.reply is not None)
+        for one in sorted(answered, key=lambda one: one.reply):
+            (_, asked), (_, reply) = records[one.request], records[one.reply]
+            code = int.from_bytes(reply[9:13], "big") if reply[4:5] == bytes([codec.STATUS]) else None
+            yield change_of(wording.kind_of(b"C", asked), wording.kind_of(b"S", reply), code)
+    return figures(map(measured, session.exchanges), max(session.in_flight, default=0), changes())
 
 
 def exact(seconds: float) -> str:
@@ -98,7 +117,7 @@ def html(found: Figures, told: Callable[[Any], str]) -> str:
     """The figures, behind a line that a reader opens. `told` gives the HTML that names a request."""
     every = found.every
     summary = (f"Figures: {counted(every.count, 'request')} of {counted(len(found.kinds), 'kind')}, "
-               f"{found.in_flight:,} in flight at most")
+               f"{found.in_flight:,} in flight and {counted(found.handles, 'handle')} open at most")
     if every.waited:
         summary += f", half of them answered within {exact(every.rank(50))} ms"
     body = [table("Requests by kind, and the bytes of their packets and of their replies",

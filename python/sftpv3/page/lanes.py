@@ -28,7 +28,13 @@ def figures_of(found: Set) -> figures.Figures:
         request, reply = row.deed.request, row.deed.reply
         return figures.Measured(request.name, len(encode(request)), 0 if reply is None else len(encode(reply)),
                                 row.took, row)
-    return figures.figures(map(measured, found.rows), found.most_in_flight())
+
+    def changes() -> Iterator[int]:
+        for deed in sorted((row.deed for row in found.rows), key=lambda deed: deed.answered):
+            if deed.reply is not None:
+                code = deed.reply.fields[0] if deed.reply.name == "STATUS" else None
+                yield figures.change_of(deed.request.name, deed.reply.name, code)
+    return figures.figures(map(measured, found.rows), found.most_in_flight(), changes())
 
 
 class Lanes:

@@ -2,30 +2,22 @@
 import argparse
 
 from sftpv3.peer.servers import WINDOW
+from sftpv3.system.parsers import number_from
 
-
-def positive(text):
-    number = int(text)
-    if number < 1:
-        raise ValueError(text)
-    return number
-
-
-def count(text):
-    """A number, also 0."""
-    return 0 if text == "0" else positive(text)
+# A number from 1 on, and one that may be 0.
+positive, count = number_from(1), number_from(0)
 
 
 def seconds(text):
-    number = float(text)
-    if not 0 < number < 1e9:
-        raise ValueError(text)
+    """Seconds, more than none."""
+    number = pause(text)
+    if not number:
+        raise argparse.ArgumentTypeError(f"{text!r} is no number above 0")
     return number
 
 
-def pause(text):
-    """Seconds, also none."""
-    return 0 if text == "0" else seconds(text)
+# Seconds, also none.
+pause = number_from(0, 10**9, float)
 
 
 def flying(text):

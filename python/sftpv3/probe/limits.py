@@ -4,12 +4,10 @@ import errno
 import os
 import queue
 import signal
-import sys
 import threading
 import time
 from collections import Counter, deque
 from concurrent import futures
-from contextlib import suppress
 from dataclasses import dataclass, field
 from typing import List
 
@@ -163,10 +161,6 @@ def not_started(error, in_flight, seed):
     return verdicts.Difference(seed, None, "INIT", verdict, session.records, session, None, None)
 
 
-# Seconds between two lines where standard error is no terminal.
-PAUSE = 10
-
-
 @dataclass
 class Played:
     """The session of a seed, and how it went."""
@@ -269,25 +263,3 @@ class Tally:
     def judged(self):
         """The sessions of which something was judged."""
         return [one for one in self.played if not one.vain()]
-
-
-class Progress:
-    """A line on a terminal that is always the latest; elsewhere a line every ten seconds."""
-
-    def __init__(self, stream=None, pause=PAUSE):
-        self.stream, self.pause = stream or sys.stderr, pause
-        self.terminal = self.stream.isatty()
-        self.last = time.monotonic()
-
-    def say(self, text):
-        # a terminal may be gone, and what is said here is not missed
-        with suppress(OSError):
-            if self.terminal:
-                print(f"\r\x1b[K{text}", end="", file=self.stream, flush=True)
-            elif time.monotonic() - self.last >= self.pause:
-                self.last = time.monotonic()
-                print(f"probe: {text}", file=self.stream, flush=True)
-
-    def clear(self):
-        if self.terminal:
-            self.say("")

@@ -7,14 +7,14 @@ import stat
 import textwrap
 
 from sftpv3 import codec
-from sftpv3.codec import wording
+from sftpv3.codec import kinds, wording
 from sftpv3.page import exchanges
 from sftpv3.peer import servers
 from sftpv3.peer.options import count, flying, pause, positive, seconds
 from sftpv3.probe import features, lacking, plans, refusals, shrinking
 from sftpv3.probe.workloads import WORKLOADS
-from sftpv3.system import files, program
-from sftpv3.system.parsers import Parser
+from sftpv3.system import files, inputs, program
+from sftpv3.system.parsers import Parser, names_among
 from sftpv3.system.ways import Way, from_root, is_inherited, named_twice, names, text_of
 
 # The exit statuses: all sessions were accepted; there are differences; the command line is wrong, or plans nothing; the
@@ -33,6 +33,10 @@ MOST_JOBS = 1000
 
 # How many clients may play at once, and the requests of small scenes in a session without them.
 MOST_CLIENTS, REQUESTS = 8, 60
+
+
+# What the files of these options have to be.
+READ = {"--tree": kinds.TREE, "--session": kinds.TRANSCRIPT}
 
 
 class Wrong(Exception):
@@ -105,19 +109,6 @@ def room(text):
         raise argparse.ArgumentTypeError(f"the draft (section 3) asks each server to take packets of "
                                          f"{plans.EACH_TAKES:,} bytes")
     return plans.Room(write="packet" in found and longest - plans.AROUND, handles=found.get("handles", 0))
-
-
-def names_among(known):
-    """Reads a list of names, which have to be among these."""
-    def names(text):
-        found = [name for name in text.split(",") if name]
-        unknown = [name for name in found if name not in known]
-        if unknown:
-            raise argparse.ArgumentTypeError(f"there is no {', '.join(unknown)}: --help lists what there is")
-        return found
-    # what completions offer
-    names.known = sorted(known)
-    return names
 
 
 def processors():
@@ -237,14 +228,20 @@ def read(option, name, reader):
     """What a file has that an option names. Of a pipe, that is so only if the process was given it open: nobody may
     write the others."""
     try:
+        name = inputs.place_of(name)
         if not is_inherited(name):
             exchanges.check(name)
         with open(name, "rb") as file:
-            return reader(file.read())
+            data = file.read()
     except OSError as error:
         raise Wrong(f"{option}: {program.told(error)}") from error
-    except (codec.Malformed, exchanges.Bad) as error:
-        raise Wrong(f"{option}: {wording.line(name)}: {error}") from error
+    except exchanges.Bad as error:
+        raise Wrong(f"{option}: {wording.line(inputs.shown(name))}: {error}") from error
+    try:
+        return reader(data)
+    except codec.Malformed as error:
+        why = kinds.named(data, READ[option]) or error
+        raise Wrong(f"{option}: {wording.line(inputs.shown(name))}: {why}") from error
 
 
 def is_writable_at(path, is_made):

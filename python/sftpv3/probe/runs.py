@@ -12,7 +12,7 @@ from sftpv3.peer import servers
 from sftpv3.probe import (below, features, groups, hints, known, lacking, lasting, leaks, limits, options, ownfiles,
                           planner, plans, reports, restarts, sessions, shrinking, starting, together, verdicts)
 from sftpv3.probe.sessions import NotStarted
-from sftpv3.system import program
+from sftpv3.system import program, progress
 from sftpv3.walk import bounds
 
 # How often a plan is played at most, each time without one more of its requests; and how often, if the server ends
@@ -183,7 +183,7 @@ class Run:
         if given.look_first is None:
             self.root.look_first(players[0])
         self.playing = limits.Halt(self.until)
-        self.groups, self.tally, self.progress = groups.Groups(), limits.Tally(), limits.Progress()
+        self.groups, self.tally, self.progress = groups.Groups(), limits.Tally(), progress.Progress("probe")
 
     def workers(self, folder, server, auditor):
         """What plays the sessions, one for each that is played at a time."""

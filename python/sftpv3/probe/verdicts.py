@@ -11,6 +11,7 @@ from sftpv3 import codec
 from sftpv3.peer import programs, servers
 from sftpv3.probe import groups, lacking, leaks, set_times
 from sftpv3.probe.sessions import Session, Stopped
+from sftpv3.system.program import of_usage
 
 # The most differences of a session that are told apart: each takes an audit more, and a session may have thousands.
 MOST_DIFFERENCES = 12
@@ -40,24 +41,15 @@ class Verdict:
     lines: Dict[str, str]
 
 
-# How the program begins what it says of words that it does not take, and the line for those who typed them.
-USAGE, HELP = "error: ", "For more information, "
-
-
-def of_usage(said):
-    """What the program says of words that it does not take, but for what it says of its own command line."""
-    lines = said.removeprefix(USAGE).splitlines()
-    return "\n".join(line for line in lines if line.strip() and not line.startswith(HELP))
-
-
 def of_audit(done):
     """The verdict of an audit that ran."""
     said, why = done.stdout.decode().strip(), done.stderr.decode().strip()
     accepted = done.returncode == 0
     found = re.match(r"refused record (\d+): (\w+)$", said) if done.returncode == 1 else \
         re.match(r"sftpv3: transcript: record (\d+): (.+)$", why, re.MULTILINE)
-    if done.returncode == 2 and why.startswith(USAGE):
-        raise Misused(of_usage(why))
+    misused = of_usage(why) if done.returncode == 2 else None
+    if misused is not None:
+        raise Misused(misused)
     if not accepted and not found:
         raise Trouble(f"the audit ended {servers.ending(done.returncode)}: {' '.join(filter(None, (said, why)))}",
                       3 if done.returncode == 3 else 2)

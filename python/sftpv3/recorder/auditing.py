@@ -132,7 +132,8 @@ class Audit:
         else:
             how = f"ended with status {status}" if status >= 0 else f"was ended by signal {-status}"
             how += "" if self.is_last else "; the record goes on"
-            self.notices.say(f"the audit {how}{': ' if lines else ''}{' '.join(lines)}")
+            self.notices.say(f"the audit {how}{': ' if lines else ''}"
+                             + "; ".join(filter(None, map(str.strip, lines))))
 
     def kill(self):
         """Ends the audit, and what it started."""

@@ -13,6 +13,8 @@ notices    lines to standard error, to a log, to syslog
 starts     the program that was installed with the scripts, and why a command cannot run
 ending     signals that end scripts in order
 children   processes that scripts start and wait for
+inputs     standard input as a file that can be read more than once
+progress   how far a command is, said on standard error
 pauses     how long they took, without pauses of the machine
 greetings  text that comes in place of packets
 parsers    complaints about command lines, and values of options

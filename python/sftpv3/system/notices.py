@@ -29,7 +29,7 @@ class Notices:
 
     def __init__(self, name, about=""):
         self.name, self.about = name, printable(about)
-        self.log = None
+        self.log = self.log_name = None
         self.is_syslog = False
 
     def open_syslog(self):
@@ -44,7 +44,7 @@ class Notices:
         if os.fstat(log).st_uid not in (0, os.geteuid()):
             os.close(log)
             raise OSError(errno.EPERM, "it belongs to another user")
-        self.log = log
+        self.log, self.log_name = log, path
 
     def say(self, text):
         """Says it everywhere."""
@@ -72,4 +72,4 @@ class Notices:
     def lose_log(self, why):
         os.close(self.log)
         self.log = None
-        self.say(f"cannot write the log: {why}")
+        self.say(f"cannot write the log {self.log_name}: {why}")

@@ -26,11 +26,21 @@ class Version(argparse.Action):
 
 class Parser(argparse.ArgumentParser):
     """A parser that knows --help and --version. Its complaints show what it was given as one line that does nothing to
-    a terminal. If standard error fails, the status is the same; if the help cannot be printed, it is 3."""
+    a terminal, and of an option that there is not, which one may be meant. If standard error fails, the status is the
+    same; if the help cannot be printed, it is 3."""
 
     def __init__(self, **given):
         super().__init__(**given)
         self.add_argument("--version", action=Version)
+
+    def parse_args(self, args=None, namespace=None):
+        given, rest = self.parse_known_args(args, namespace)
+        if rest:
+            unknown = next((word for word in rest if word.startswith("-")), None)
+            name, options = str(unknown).split("=")[0], list(self._option_string_actions)
+            self.error(f"unrecognized arguments: {' '.join(rest)}" if unknown is None else
+                       f"there is no option {name}{meant(name, options)}")
+        return given
 
     def print_help(self, file=None):
         print_or_end(self.format_help(), os.path.basename(self.prog))
@@ -44,14 +54,63 @@ class Parser(argparse.ArgumentParser):
         self.exit(2)
 
 
-def number_from(least, most, kind=int):
-    """Reads numbers from `least` on and below `most`."""
+def meant(word, known):
+    """Asks at the end of a message whether the most similar of the words was meant, if one is similar."""
+    # only wrong words need this module
+    from difflib import get_close_matches
+    found = get_close_matches(word, known, 1)
+    return f"; did you mean {found[0]}?" if found else ""
+
+
+def one_of(*known):
+    """Reads one of these words."""
+    def word(text):
+        if text not in known:
+            raise argparse.ArgumentTypeError(f"{text!r} is none of {', '.join(known)}{meant(text, known)}")
+        return text
+    # what completions offer
+    word.known = sorted(known)
+    return word
+
+
+def names_among(known):
+    """Reads a list of names, with commas between, which have to be among these."""
+    def names(text):
+        found = [name for name in text.split(",") if name]
+        unknown = [f"there is no {name}{meant(name, sorted(known))}" for name in found if name not in known]
+        if unknown:
+            raise argparse.ArgumentTypeError(f"{' '.join(unknown)} (--help lists what there is)")
+        return found
+    names.known = sorted(known)
+    return names
+
+
+def number_from(least, most=None, kind=int):
+    """Reads numbers from `least` on, and below `most`, if there is one: whole ones, unless `kind` reads others."""
+    noun = "whole number" if kind is int else "number"
+
     def number(text):
-        found = kind(text)
-        if not least <= found < most:
-            raise ValueError(text)
+        try:
+            found = kind(text)
+        except ValueError:
+            found = None
+        if found is None or not found >= least:
+            raise argparse.ArgumentTypeError(f"{text!r} is no {noun} from {least:,} on")
+        if most is not None and not found < most:
+            raise argparse.ArgumentTypeError(f"{text!r} is not below {most:,}")
         return found
     return number
+
+
+def octal(text):
+    """Permissions in octal digits, of a user, a group and others."""
+    try:
+        found = int(text, 8)
+    except ValueError:
+        found = -1
+    if not 0 <= found <= 0o777:
+        raise argparse.ArgumentTypeError(f"{text!r} is no number in octal digits up to 777")
+    return found
 
 
 def size(text):

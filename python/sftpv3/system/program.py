@@ -2,12 +2,14 @@
 import functools
 import itertools
 import os
+import shutil
 import subprocess
 import sys
 from contextlib import suppress
 
 from sftpv3.codec import wording
-from sftpv3.system import temporary
+from sftpv3.system import inputs, temporary
+from sftpv3.system.standard import Unread, is_unread
 
 # The package: python/sftpv3 of the repository, whose clients/ starts the commands, or lib/sftpv3/sftpv3 beside them.
 PACKAGE = os.path.dirname(os.path.dirname(os.path.realpath(__file__)))
@@ -97,17 +99,50 @@ def temporary_folder():
 
 def say(text):
     """Prints a line that may have words of a server or of a file: no sign of it does anything to a terminal. The error
-    of a standard output that does not take it names it."""
+    of a standard output that does not take it names it. Where nobody reads it any more, the script ends."""
+    put(lambda: print(wording.line(str(text)), flush=True))
+
+
+def put_file(file):
+    """Writes the bytes of an open file to standard output, as `say` prints a line."""
+    def write():
+        shutil.copyfileobj(file, sys.stdout.buffer)
+        sys.stdout.buffer.flush()
+    put(write)
+
+
+def put(write):
+    """Has something written to standard output."""
     try:
-        print(wording.line(str(text)), flush=True)
+        write()
     except OSError as error:
+        if is_unread(error):
+            raise Unread from None
         raise OSError(error.errno, error.strerror, "standard output") from None
 
 
 def tell(text):
     """Says such a line to standard error, unless nobody can be told."""
     with suppress(OSError):
-        print(wording.line(str(text)), file=sys.stderr, flush=True)
+        print(wording.line(inputs.shown(str(text))), file=sys.stderr, flush=True)
+
+
+# How the program begins what it says of words that it does not take, and the line for those who typed them.
+USAGE, HELP = "error: ", "For more information, "
+
+
+def of_usage(said):
+    """What the program says of words that it does not take, but for what it says of its own command line; or None if
+    it says something else."""
+    if not said.startswith(USAGE):
+        return None
+    lines = said[len(USAGE):].splitlines()
+    return "\n".join(line for line in lines if line.strip() and not line.startswith((HELP, "Usage: ")))
+
+
+def one_line(text):
+    """What has several lines as one."""
+    return "; ".join(line.strip() for line in str(text).splitlines())
 
 
 def complain(name, why, status):

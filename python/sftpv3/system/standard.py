@@ -58,22 +58,32 @@ def end_unforeseen(kind, error, trace):
         os._exit(3)
 
 
-def end(main, tell, failed: int = 3) -> int:
+class Unread(SystemExit):
+    """Nobody reads the pipe any more that standard output is. `end` gives the status."""
+
+
+def end(main, tell, failed: int = 3, unread: int | None = None) -> int:
     """Calls the main function of a script, and gives the status that it gives or ends with. Where standard output did
     not take what was printed, `tell` gets why, and the status is `failed`; so it is where something happens that the
-    script does not foresee, which is shown."""
+    script does not foresee, which is shown. A pipe that nobody reads any more is not told, since its reader has seen
+    enough: the status is `unread`, or `failed`."""
     try:
         status = main()
+    except Unread:
+        status = failed if unread is None else unread
     except SystemExit as ended:
         status = ended.code
     except Exception:  # noqa: BLE001 (whatever it is, it is no verdict)
         show_mistake(tell)
         status = failed
-    why = left_unsaid(sys.stdout)
-    if why:
-        tell(f"standard output: {why}")
+    error = left_unsaid(sys.stdout)
     left_unsaid(sys.stderr)
-    return failed if why else status
+    if is_unread(error):
+        return failed if unread is None else unread
+    if error:
+        tell(f"standard output: {error.strerror}")
+        left_unsaid(sys.stderr)
+    return failed if error else status
 
 
 def show_mistake(tell):
@@ -88,30 +98,37 @@ def show_mistake(tell):
 
 def print_or_end(text: str, name: str) -> None:
     """Prints a text, such as what a script says of itself. Where standard output does not take it, says why, and ends
-    the script of this name with status 3."""
-    why = None
+    the script of this name with status 3; or without a word, with status 0, where nobody reads it any more."""
+    failure = None
     try:
         sys.stdout.write(text)
     except OSError as error:
-        why = error.strerror
-    why = left_unsaid(sys.stdout) or why
-    if not why:
+        failure = error
+    failure = left_unsaid(sys.stdout) or failure
+    if not failure:
         return
+    if is_unread(failure):
+        raise SystemExit(0)
     try:
-        sys.stderr.write(f"{name}: standard output: {why}\n")
+        sys.stderr.write(f"{name}: standard output: {failure.strerror}\n")
     except OSError:
         pass
     left_unsaid(sys.stderr)
     raise SystemExit(3)
 
 
-def left_unsaid(stream) -> str | None:
+def is_unread(error: OSError | None) -> bool:
+    """Whether nobody reads the pipe any more that a stream is."""
+    return isinstance(error, BrokenPipeError)
+
+
+def left_unsaid(stream) -> OSError | None:
     """Why a stream did not take all that was printed, or None. What it did not take is not printed at the end."""
     try:
         stream.flush()
     except OSError as error:
         os.dup2(os.open(os.devnull, os.O_WRONLY), stream.fileno())
-        return error.strerror
+        return error
     return None
 
 

@@ -14,7 +14,7 @@ from sftpv3.together.checking import Place
 from sftpv3.together.deeds import Deed
 from sftpv3.together.options import (ACCEPTED, FAILED, REFUSED, STEPS, STEPS_EACH, TOLERANCE_OF_DATES, UNDECIDED,
                                      USAGE, options, tell)
-from sftpv3.together.outside import Malformed, NotBuilt, trees
+from sftpv3.together.outside import Malformed, NotBuilt, kinds, place_of, put, trees
 from sftpv3.together.sets import TIMES, TRANSCRIPT, Unfit, read_set
 from sftpv3.together.states import State
 
@@ -28,7 +28,7 @@ class Verdict:
         self.word, self.text, self.told = word, text, {"verdict": word, "text": text, **told}
 
     def show(self, as_json: bool) -> int:
-        print(json.dumps(self.told) if as_json else self.text, flush=True)
+        put(lambda: print(json.dumps(self.told) if as_json else self.text, flush=True))
         return STATUS[self.word]
 
 
@@ -42,6 +42,8 @@ class Command:
 
     def __init__(self, given: argparse.Namespace):
         self.given = given
+        given.tree = place_of(given.tree)
+        given.order = given.order and place_of(given.order)
         self.tree = read_tree(given.tree)
         self.sessions, is_of_boot = read_set(given.folder)
         self.deeds = [session.deeds for session in self.sessions]
@@ -215,7 +217,9 @@ def read_tree(name: str) -> trees.Tree:
     try:
         return trees.read(name)
     except Malformed as error:
-        raise Unfit(f"{name}: {error}") from None
+        with open(name, "rb") as file:
+            why = kinds.named(file.read(512), kinds.TREE) or error
+        raise Unfit(f"{name}: {why}") from None
 
 
 def main(about: str) -> int:

@@ -7,7 +7,7 @@ import sys
 
 from sftpv3.together import profiles
 from sftpv3.together.deeds import Parts
-from sftpv3.together.outside import Parser, called, trees
+from sftpv3.together.outside import Parser, called, meant, octal, one_of, shown, trees
 
 # The exit statuses.
 ACCEPTED, REFUSED, USAGE, FAILED, UNDECIDED = range(5)
@@ -27,23 +27,13 @@ MOST_PIECE = 2**32 - 1
 
 def tell(text: object) -> None:
     """Says a line to standard error."""
-    print(f"{os.path.basename(called('together'))}: {text}", file=sys.stderr, flush=True)
+    print(f"{os.path.basename(called('together'))}: {shown(str(text))}", file=sys.stderr, flush=True)
 
 
 def number(text: str) -> int:
     if not (text.isascii() and text.isdigit()):
         raise argparse.ArgumentTypeError(f"{text!r} is no number")
     return int(text)
-
-
-def octal(text: str) -> int:
-    try:
-        found = int(text, 8)
-    except ValueError:
-        found = -1
-    if not 0 <= found <= 0o777:
-        raise argparse.ArgumentTypeError(f"{text!r} is no umask in octal digits")
-    return found
 
 
 def piece(text: str) -> int:
@@ -59,12 +49,15 @@ def parser(about: str) -> argparse.ArgumentParser:
     add = found.add_argument
     add("folder", metavar="DIR", help="the folder with NAME.transcript and NAME.times of each session")
     add("--tree", metavar="FILE", required=True, help="the tree from which the sessions started")
-    add("--profile", choices=sorted(profiles.PROFILES), help="as of `sftpv3 audit --profile` (none: strict)")
+    add("--profile", metavar="NAME", type=one_of(*sorted(profiles.PROFILES)),
+        help=f"as of `sftpv3 audit --profile`: {' or '.join(sorted(profiles.PROFILES))} (none: strict)")
     add("--allow", metavar="NAME,...", action="append", default=[], help="departures to accept, too")
     add("--except", dest="but", metavar="NAME,...", action="append", default=[], help="departures not to accept")
     add("--umask", metavar="OCTAL", type=octal, default=profiles.UMASK, help="the umask of the server (022)")
-    add("--new-owner", choices=profiles.OWNERS, help="whose the things are that sessions make")
-    add("--symlink", choices=["draft"], help="the server takes the paths of SYMLINK in the order of the draft")
+    add("--new-owner", metavar="WHOSE", type=one_of(*profiles.OWNERS),
+        help=f"whose the things are that sessions make: {' or '.join(profiles.OWNERS)}")
+    add("--symlink", metavar="draft", type=one_of("draft"),
+        help="the server takes the paths of SYMLINK in the order of the draft")
     add_more(add)
     return found
 
@@ -107,7 +100,7 @@ def options(about: str) -> argparse.Namespace:
     try:
         given.by = profiles.profile_of(given)
     except ValueError as error:
-        found.error(f"{error} is no departure")
+        found.error(f"{error} is no departure{meant(str(error), profiles.ALL + profiles.OF_USERS)}")
     given.parts = parts(found, given)
     if given.order and given.write_order:
         found.error("--order and --write-order exclude each other")

@@ -7,6 +7,7 @@ from collections import deque
 from sftpv3 import codec
 from sftpv3.peer import programs, servers
 from sftpv3.system import children
+from sftpv3.system.program import of_usage, one_line
 from sftpv3.walk import bounds
 from sftpv3.walk.bounds import Misbehaves, shown
 from sftpv3.walk.sessions import DIRECTORY, FILE, LINK, kind_of
@@ -257,8 +258,10 @@ def why_wrong(program, words, folder):
     with open(begun, "wb") as file:
         file.write(codec.put_records(codec.BEGUN))
     done = programs.run([program, "infer", *words, "--transcript", begun, os.path.join(folder, "begun.tree")], None)
-    lines = done.stderr.decode(errors="replace").splitlines() or ["the program does not take its options"]
-    return lines[0].removeprefix("error: ") if done.returncode == 2 else None
+    if done.returncode != 2:
+        return None
+    said = done.stderr.decode(errors="replace")
+    return one_line(of_usage(said) or said) or "the program does not take its options"
 
 
 def why_too_large(lines, memory):
