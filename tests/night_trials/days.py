@@ -139,7 +139,7 @@ def begun_meanwhile(steps, place):
     place.nightly()
     record = str(place.record("20261130T000000Z"))
     for begins, status, part in ((True, 0, "1 session accepted; " + ENDS_WELL),
-                                 (False, 3, "nightly: tree: /f: changed while it was read")):
+                                 (False, 3, f"nightly: {USER}: tree: /f: changed while it was read")):
         mark = str(place.room / f"mark-{begins}")
         script = changed(place, UNREAD.format(mark=mark, begins=begins, record=record))
         began = "began" if begins else "did not begin"

@@ -1,5 +1,6 @@
 """The parts of clients/nightly, each building on those before it:
 
+bounds   what bounds the copies of records
 records  the transcripts of users, and copies of them where only root can change them
 earlier  what a run of an earlier version left
 journal  what is decided of records is done as a whole, or finished by the next run

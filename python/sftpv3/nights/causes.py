@@ -19,7 +19,7 @@ WIRE = re.compile(r"sftpv3: transcript: record ([0-9]+): ")
 LINK = re.compile(r'[0-9]+ L "(.*)" "(.*)"')
 ESCAPED = re.compile(rb"\\x([0-9a-f]{2})")
 
-OUTSIDE, FULL, LOCALLY = "outside", "a full disk", "changed locally"
+OUTSIDE, FULL, LOCALLY, OVERLAP = "outside", "a full disk", "changed locally", "overlap"
 SERVER_S, CLIENT_S, RECORD = "the server", "the client", "the record"
 # What each cause means, in a line.
 MEANS = {
@@ -37,6 +37,9 @@ MOST_LINKS, MOST_BYTES = 40, 1 << 26
 CHANGING = WRITE | APPEND | CREAT | TRUNC
 # Requests that change the places that they name, besides an OPEN to write.
 CHANGERS = ("SETSTAT", "REMOVE", "MKDIR", "RMDIR", "RENAME", "POSIX-RENAME", "HARDLINK", "SYMLINK")
+# Extensions that the audit does not judge, and that change nothing.
+LOOKING = {b"limits@openssh.com", b"statvfs@openssh.com", b"fstatvfs@openssh.com", b"expand-path@openssh.com",
+           b"users-groups-by-id@openssh.com", b"home-directory"}
 PATHS = ("path", "new_path", "link")
 
 
@@ -88,20 +91,39 @@ def is_failure(reply: Packet) -> bool:
     return reply.name == "STATUS" and reply.fields[0] != OK
 
 
+def changed_by(request: Packet, opened: Dict[bytes, bytes], home: bytes) -> Optional[Set[bytes]]:
+    """The places that a request may change, where handles are open for these; None if that is not known."""
+    if request.name == "EXTENDED":
+        return set() if request.fields[0] in LOOKING else None
+    if request.name == "FSETSTAT":
+        return {opened[request.fields[0]]} if request.fields[0] in opened else None
+    is_changer = request.name in CHANGERS or request.name == "OPEN" and request.fields[1] & CHANGING
+    return {absolute(it, home) for it in paths_of(request)} if is_changer else set()
+
+
 def touched(data: bytes, home: bytes) -> Optional[Set[bytes]]:
     """The places that a session may have changed; None if that is not known."""
     found: Set[bytes] = set()
+    waiting: Dict[int, bytes] = {}
+    opened: Dict[bytes, bytes] = {}
     for number, (side, packet) in enumerate(records(data), 1):
-        if side != CLIENT or number == 1:
+        if number <= 2:
             continue
         try:
-            request = read(side, packet)
+            one = read(side, packet)
         except Malformed:
             return None
-        if request.name in ("EXTENDED", "FSETSTAT"):
+        if side != CLIENT:
+            path = waiting.pop(one.number, None)
+            if one.name == "HANDLE" and path is not None:
+                opened[one.fields[0]] = path
+            continue
+        places = changed_by(one, opened, home)
+        if places is None:
             return None
-        if request.name in CHANGERS or request.name == "OPEN" and request.fields[1] & CHANGING:
-            found |= {absolute(it, home) for it in paths_of(request)}
+        found |= places
+        if one.name in ("OPEN", "OPENDIR"):
+            waiting[one.number] = absolute(one.fields[0], home)
     return found
 
 

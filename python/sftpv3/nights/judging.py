@@ -5,13 +5,14 @@ from contextlib import ExitStack, contextmanager
 from typing import NamedTuple
 
 from sftpv3.codec import CLIENT, Malformed
-from sftpv3.codec import records as records_in
 from sftpv3.nights import accounts, causes, journal, sets
 from sftpv3.nights.auditing import named, said_of_unanswered
+from sftpv3.nights.bounds import NotCopied, TooMuch
 from sftpv3.nights.journal import AFTER, NEXT, NONE, SAME, TREE, Decision
 from sftpv3.nights.parts import Part, reach_of
 from sftpv3.nights.records import NEW, Copy, Failed, end_of_silence, is_empty
 from sftpv3.nights.spans import may_overlap
+from sftpv3.recorder.packets import OPENING
 from sftpv3.system import children, ending
 
 # How many lines are printed of a refusal.
@@ -33,15 +34,30 @@ def said_beside(record, others):
     return f" (beside {listed(beside)})" if beside else ""
 
 
+def side_of(place, number):
+    """The side of a record of a transcript, or None if it has no such record. Of a long one no more is read."""
+    with open(place, "rb") as file:
+        file.seek(len(OPENING))
+        for _ in range(number):
+            front = file.read(sets.FRONT.size)
+            if len(front) < sets.FRONT.size:
+                return None
+            side, length = sets.FRONT.unpack(front)
+            file.seek(length, os.SEEK_CUR)
+    return side
+
+
 class Refusal(NamedTuple):
-    """What was refused: what it is called in lines, whose session it is, where its copy is kept, and the verdict; and
-    what is said of the sessions that may have run at the same time, if they were not judged with it."""
+    """What was refused: what it is called in lines, whose session it is, where its copy is kept, and the verdict; what
+    is said of the sessions that may have run at the same time, if they were not judged with it; and how many sessions
+    were refused with it."""
 
     name: str
     user: str
     place: str
     line: str
     beside: str = ""
+    count: int = 1
 
 
 class Judge:
@@ -49,27 +65,31 @@ class Judge:
     programs."""
 
     def __init__(self, night):
-        self.night, self.given, self.say = night, night.given, night.say
-        self.accepted = self.unanswered = 0
+        self.night, self.given, self.say, self.summary = night, night.given, night.say, night.summary
+        self.unanswered = 0
         # what this night kept, and of which users; and what it refused
         self.kept, self.refusals = [], []
 
     @contextmanager
     def copied(self, records):
         """Copies of records, which are closed behind the block; what is not kept of them is removed then."""
-        taken = {}
+        taken, bounds = {}, self.night.copy_bounds()
         with ExitStack() as stack:
             stack.callback(self.night.tidy)
             copies = []
             for record in records:
-                copies.append(self.copy_of(record, sets.stem_of(record.name, taken)))
+                copies.append(self.copy_of(record, sets.stem_of(record.name, taken), bounds))
                 stack.callback(copies[-1].close)
             yield copies
 
-    def copy_of(self, record, stem):
+    def copy_of(self, record, stem, bounds):
+        """The copy of a record; NotCopied if it would be too much."""
+        bounds.begin()
         record.open()
         try:
-            return Copy(record, self.night.numbers, stem, record.part)
+            return Copy(record, self.night.numbers, bounds, stem, record.part)
+        except TooMuch as why:
+            raise NotCopied(record, why) from None
         except OSError as error:
             raise Failed(f"{record.shown()}: cannot be copied: {error.strerror}") from None
         finally:
@@ -77,8 +97,18 @@ class Judge:
 
     def judge(self, record, note=""):
         """Audits a copy of a record."""
-        with self.copied([record]) as (copy,):
-            self.audit(copy, note)
+        try:
+            with self.copied([record]) as (copy,):
+                self.audit(copy, note)
+        except NotCopied as it:
+            self.leave(it, note)
+
+    def leave(self, it, note=""):
+        """Leaves a record in the spool of which there can be no copy. What comes behind it has no tree to start
+        from."""
+        self.say(f"{it.record.shown()}: not judged: {it}; it stays in the spool{note}", 1)
+        self.summary.unjudged += 1
+        self.night.leave(it.record)
 
     def audit(self, copy, note=""):
         """Audits a session, if there is a tree to start from, and makes its last tree the one of the next. What comes
@@ -96,12 +126,13 @@ class Judge:
             # if the session changed something, the folder has it
             self.say(f"{name}: not judged: nothing was recorded{note}", 1)
             self.keep([copy], "unjudged", SAME)
+            self.summary.unjudged += 1
             return True
         silence = end_of_silence(copy.file)
         if silence:
             self.say(f"{name}: nothing was asked: the record ends {silence}{note}")
             self.keep([copy], "accepted", SAME)
-            self.accepted += 1
+            self.summary.accepted += 1
         return bool(silence)
 
     def audit_requests(self, copy, name, note):
@@ -144,29 +175,34 @@ class Judge:
 
     def judge_running(self, record):
         """Judges what a session that runs has done so far, and for good what it had done when it was last quiet."""
-        with self.copied([record]) as (copy,):
-            if not os.path.exists(TREE) or record.is_lost():
-                self.lose(copy)
-                return
-            size = os.fstat(copy.file).st_size
-            found = reach_of(copy.file, record.part and Part(record.part.head, record.part.head, 2), size)
-            if found.head is None:
-                return
-            copy.cut(found.end, found.count)
-            if not self.is_right_so_far(copy):
-                return
-            if found.quiet > found.head:
-                copy.cut(found.quiet, found.quiet_count)
-                self.go_on_behind(copy, found)
-            elif record.part is None:
-                self.night.note_part(record, Part(found.head, found.head, 2))
+        if not os.path.exists(TREE) or record.is_lost():
+            self.lose(record, "there is no tree that it started from", SAME)
+            return
+        try:
+            with self.copied([record]) as (copy,):
+                self.judge_so_far(copy, record)
+        except NotCopied as it:
+            self.lose(record, it, NONE)
 
-    def lose(self, copy):
+    def judge_so_far(self, copy, record):
+        size = os.fstat(copy.file).st_size
+        found = reach_of(copy.file, record.part and Part(record.part.head, record.part.head, 2), size)
+        if found.head is None:
+            return
+        copy.cut(found.end, found.count)
+        if not self.is_right_so_far(copy):
+            return
+        if found.quiet > found.head:
+            copy.cut(found.quiet, found.quiet_count)
+            self.go_on_behind(copy, found)
+        elif record.part is None:
+            self.night.note_part(record, Part(found.head, found.head, 2))
+
+    def lose(self, record, why, tree):
         """Holds on to it that there is no tree from which the session could be judged."""
-        self.say(f"{copy.record.shown()}: still running; it is not judged, since there is no tree that it started from",
-                 1)
-        if not copy.record.is_lost():
-            self.night.note_part(copy.record, (copy.record.part or Part(0, 0, 0))._replace(is_lost=True))
+        self.say(f"{record.shown()}: still running; it is not judged, since {why}", 1)
+        if not record.is_lost():
+            self.night.note_part(record, (record.part or Part(0, 0, 0))._replace(is_lost=True), tree)
 
     def is_right_so_far(self, copy):
         """Whether all that a session has done is right, which is said."""
@@ -212,14 +248,23 @@ class Judge:
             for record in records:
                 self.judge(record, said_beside(record, records))
             return
-        with self.copied(records) as copies:
-            has_tree = os.path.exists(TREE) and not any(it.is_lost() for it in records)
-            asked = [it for it in copies if not self.is_silent(it)] if has_tree else copies
-            if len(asked) < 2 or not has_tree:
-                for copy in asked:
-                    self.audit(copy)
-            else:
-                self.judge_set(asked)
+        try:
+            with self.copied(records) as copies:
+                self.judge_copies(copies)
+        except NotCopied as it:
+            self.leave(it)
+            for record in records:
+                if record is not it.record:
+                    self.judge(record, said_beside(record, records))
+
+    def judge_copies(self, copies):
+        has_tree = os.path.exists(TREE) and not any(it.record.is_lost() for it in copies)
+        asked = [it for it in copies if not self.is_silent(it)] if has_tree else copies
+        if len(asked) < 2 or not has_tree:
+            for copy in asked:
+                self.audit(copy)
+        else:
+            self.judge_set(asked)
 
     def judge_set(self, copies):
         records = [it.record for it in copies]
@@ -257,7 +302,7 @@ class Judge:
         """Notes which record of a set is refused."""
         for copy, place in zip(copies, places):
             if f"refused: {os.path.basename(copy.place)} record " in line:
-                self.refusals.append(Refusal(name, copy.record.user, place, line))
+                self.refusals.append(Refusal(name, copy.record.user, place, line, count=len(copies)))
 
     def best_answer(self, copies):
         """What is said of a set, and a note on its times: by the times of its records if they have them. Otherwise the
@@ -309,14 +354,10 @@ class Judge:
     def sender_of_malformed(self, refusal):
         """Who sent the packet for which a record is malformed, or None if it is no packet that is wrong."""
         found = causes.WIRE.search(refusal.line)
-        if not found:
+        if not found or " Wire " not in refusal.line:
             return None
-        with open(refusal.place, "rb") as file:
-            sides = [side for side, _ in records_in(file.read())]
-        number = int(found[1])
-        if " Wire " not in refusal.line or number > len(sides):
-            return None
-        return causes.CLIENT_S if sides[number - 1] == CLIENT else causes.SERVER_S
+        side = side_of(refusal.place, int(found[1]))
+        return side and (causes.CLIENT_S if side == CLIENT else causes.SERVER_S)
 
     # what becomes of copies
 
@@ -326,12 +367,13 @@ class Judge:
         self.say(text, status)
         self.night.say_lines(unanswered)
         self.keep(copies, "accepted", NEXT)
-        self.accepted += len(copies)
+        self.summary.accepted += len(copies)
         self.unanswered += bool(unanswered) or "without a reply" in first
 
     def give_up(self, copies, text):
         """Says that copies cannot be judged, and puts them aside."""
         self.say(text, 1)
+        self.summary.unjudged += len(copies)
         if copies:
             self.keep(copies, "unjudged", NONE)
 
@@ -339,6 +381,7 @@ class Judge:
         """Keeps copies, with a verdict beside each, and has their records out of the spool, whatever signal comes
         meanwhile; but those of sessions that run stay there, of which `parts` says how far they are judged. What comes
         behind those that are not accepted has no tree to start from. Returns where each copy is kept."""
+        self.tell_endings(copies)
         places = []
         with ending.put_off():
             decision = Decision(tree, self.night.parts_without(copies) if parts is None else parts)
@@ -355,6 +398,14 @@ class Judge:
             self.night.parts = self.night.parts if decision.parts is None else decision.parts
         self.kept += [(place, it.record.user) for place, it in zip(places, copies)]
         return places
+
+    def tell_endings(self, copies):
+        """Says how servers ended that ended their sessions, which no verdict has."""
+        for record in (it.record for it in copies if it.record.ending):
+            whose = "its recorder" if len(copies) == 1 else f"the recorder of {record.shown()}"
+            has_crashed = record.has_crashed_server()
+            self.say(f"  {whose} says: the server {record.ending}", int(has_crashed))
+            self.summary.crashed += has_crashed
 
     def note_verdicts(self, copies, verdict):
         """Has the verdict on the disk that is kept beside each copy. Returns whether that could be done."""
