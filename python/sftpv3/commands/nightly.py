@@ -55,6 +55,13 @@ MOST_COPIED = 1 << 36
 MOST_TIME, MOST_MEMORY = 10**9, 1 << 60
 
 
+def volatile_path(text):
+    """A path of --volatile: from the root, as clients see it, and not the root itself."""
+    if not text.startswith("/") or not text.strip("/") or {".", "..", ""} & set(text.strip("/").split("/")):
+        raise argparse.ArgumentTypeError(f"invalid path from the root: {text!r}")
+    return os.fsencode(text)
+
+
 def options():
     about = __doc__.split("\n\n", 2)
     parser = Parser(prog=os.path.basename(program.called("nightly")),
@@ -86,6 +93,9 @@ def options():
         help="remove accepted and unjudged records that were kept for more days")
     add("--keep-bytes", metavar="BYTES", type=number_from(0, MOST_MEMORY),
         help="keep no more bytes of records: first the oldest accepted ones go, then unjudged, then refused ones")
+    add("--volatile", metavar="PATH", action="append", default=[], type=volatile_path,
+        help="what a program of the machine writes: nothing is claimed of it, or of what is below it; each name of the "
+             "path may have the signs * ? [] of a shell (repeatable)")
     add("--chroot", action="store_true", help="as of sftpv3-tree")
     add("--without-mounts", action="store_true", help="as of sftpv3-tree")
     add("--home", metavar="PLACE", help="as of sftpv3-tree")

@@ -11,6 +11,10 @@ auditing the options of an audit, and what its lines say
 accounts several accounts whose sessions change the same folders
 sets     sessions that sftpv3-together judges together
 causes   why a session was refused
+opening  places that are open, and sessions without their requests there
+behind   the tree behind a session that was not accepted, without these
+keeping  for how long copies of records are kept
+summary  what a night came to, for machines
 judging  what a night says of records, and what becomes of their copies
 night    one run: it audits what was recorded, and compares the folders with what that leaves
 """

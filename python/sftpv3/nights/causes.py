@@ -112,7 +112,9 @@ def touched(data: bytes, home: bytes) -> Optional[Set[bytes]]:
         try:
             one = read(side, packet)
         except Malformed:
-            return None
+            if side == CLIENT:
+                return None
+            continue
         if side != CLIENT:
             path = waiting.pop(one.number, None)
             if one.name == "HANDLE" and path is not None:

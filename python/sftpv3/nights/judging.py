@@ -2,13 +2,16 @@
 import os
 import subprocess
 from contextlib import ExitStack, contextmanager
-from typing import NamedTuple
+from typing import NamedTuple, Optional
 
 from sftpv3.codec import CLIENT, Malformed
 from sftpv3.nights import accounts, causes, journal, sets
 from sftpv3.nights.auditing import named, said_of_unanswered
+from sftpv3.nights.behind import JUDGED, Behind
+from sftpv3.nights.behind import named as places_named
 from sftpv3.nights.bounds import NotCopied, TooMuch
 from sftpv3.nights.journal import AFTER, NEXT, NONE, SAME, TREE, Decision
+from sftpv3.nights.opening import Open
 from sftpv3.nights.parts import Part, reach_of
 from sftpv3.nights.records import NEW, Copy, Failed, end_of_silence, is_empty
 from sftpv3.nights.spans import may_overlap
@@ -60,12 +63,22 @@ class Refusal(NamedTuple):
     count: int = 1
 
 
+class Judged(NamedTuple):
+    """What is judged of a session or a set: a transcript, how many requests were left out, since they are at open
+    places, and what is open behind it, or None: what was so before."""
+
+    file: str
+    count: int
+    open: Optional[Open]
+
+
 class Judge:
     """Judges records from the tree of the night, one by one or as sets. `night` prints what it says, and runs the
     programs."""
 
     def __init__(self, night):
         self.night, self.given, self.say, self.summary = night, night.given, night.say, night.summary
+        self.behind = Behind(night, self.given.volatile)
         self.unanswered = 0
         # what this night kept, and of which users; and what it refused
         self.kept, self.refusals = [], []
@@ -135,22 +148,47 @@ class Judge:
             self.summary.accepted += 1
         return bool(silence)
 
+    def judged_of(self, copy):
+        """The transcript of a copy that is judged: without its requests at open places, if there are such."""
+        left = self.behind.reduced(copy) if self.behind.open else None
+        if left is None:
+            return Judged(f"/proc/self/fd/{copy.file}", 0, None)
+        self.behind.write(JUDGED, left.data)
+        return Judged(JUDGED, left.count, left.open)
+
+    def is_too_long(self, copy):
+        return self.behind.open and os.fstat(copy.file).st_size > causes.MOST_BYTES
+
     def audit_requests(self, copy, name, note):
         self.night.become(self.night.account(copy.record.user))
-        file = f"/proc/self/fd/{copy.file}"
-        found = self.run_audit([copy], file, name, note, pass_fds=[copy.file])
+        if self.is_too_long(copy):
+            self.give_up([copy], f"{name}: not judged: places are open, and it has more than {causes.MOST_BYTES} bytes")
+            return
+        judged = self.judged_of(copy)
+        found = self.run_audit([copy], judged.file, name, note, pass_fds=[copy.file])
         if found is None:
             return
-        first, *more = named(found.lines(), file, name) or [""]
+        first, *more = named(found.lines(), judged.file, name) or [""]
         if found.status == 0:
-            self.accept([copy], f"{name}: {first}{note}", first)
+            self.accept([copy], f"{name}: {first}{self.behind.but_for(judged.count)}{note}", first, judged)
         elif found.status != 1 and not first.startswith("sftpv3: transcript: "):
             raise Failed(f"{name}: the audit ended with status {found.status}: {' '.join([first, *more]).strip()}")
         else:
             self.say(f"{name}: {first}{note}", 1)
             self.night.say_lines(more)
-            (place,) = self.keep([copy], "refused", NONE, [first, *more])
+            (place,) = self.keep_behind([copy], "refused", self.behind.behind_refusal(copy, first), [first, *more])
             self.refusals.append(Refusal(name, copy.record.user, place, first, note))
+
+    def keep_behind(self, copies, kind, opened, verdict=()):
+        """Keeps copies that are not accepted. What comes behind them starts from the tree without what is open then; if
+        that is not known, it has none."""
+        before = set(self.behind.open.places)
+        if opened is None:
+            return self.keep(copies, kind, NONE, verdict)
+        new = [it.path for it in opened.places if it not in before]
+        if new:
+            self.say(f"  open from there on: {places_named(new)}")
+        return self.keep(copies, kind, NEXT, verdict, opened=opened)
 
     def run_audit(self, copies, transcript, name, note, pass_fds=()):
         """The audit of a transcript from the tree, or None if it came to no verdict, which is said, and the copies are
@@ -185,6 +223,9 @@ class Judge:
             self.lose(record, it, NONE)
 
     def judge_so_far(self, copy, record):
+        if self.is_too_long(copy):
+            self.lose(record, f"places are open, and it has more than {causes.MOST_BYTES} bytes", NONE)
+            return
         size = os.fstat(copy.file).st_size
         found = reach_of(copy.file, record.part and Part(record.part.head, record.part.head, 2), size)
         if found.head is None:
@@ -206,14 +247,16 @@ class Judge:
 
     def is_right_so_far(self, copy):
         """Whether all that a session has done is right, which is said."""
-        name, file = copy.record.shown(), f"/proc/self/fd/{copy.file}"
+        name = copy.record.shown()
         self.night.become(self.night.account(copy.record.user))
-        found = self.run_audit([], file, f"{name}: still running", "", pass_fds=[copy.file])
+        judged = self.judged_of(copy)
+        found = self.run_audit([], judged.file, f"{name}: still running", "", pass_fds=[copy.file])
         if found is None:
             return False
-        first, *more = named(found.lines(), file, name) or [""]
+        first, *more = named(found.lines(), judged.file, name) or [""]
         if found.status == 0:
-            self.say(f"{name}: {first} so far; still running")
+            self.say(f"{name}: {first}{self.behind.but_for(judged.count)} so far; still running",
+                     int(self.is_partial(judged)))
             return True
         if found.status != 1 and not first.startswith("sftpv3: transcript: "):
             raise Failed(f"{name}: the audit ended with status {found.status}: {' '.join([first, *more]).strip()}")
@@ -226,15 +269,15 @@ class Judge:
 
     def go_on_behind(self, copy, found):
         """Keeps what was done up to a quiet moment, and goes on from its tree."""
-        name, file = copy.record.shown(), f"/proc/self/fd/{copy.file}"
-        done = self.run_audit([], file, name, "", pass_fds=[copy.file])
+        name, judged = copy.record.shown(), self.judged_of(copy)
+        done = self.run_audit([], judged.file, name, "", pass_fds=[copy.file])
         if done is None:
             return
         if done.status != 0:
             raise Failed(f"{name}: of what was accepted, a part is not: {' '.join(done.lines())}")
         before = copy.record.part or Part(found.head, found.head, 2)
         part = Part(before.at + found.quiet - found.head, found.head, before.count + found.quiet_count - 2)
-        self.keep([copy], "accepted", NEXT, (), self.night.parts_with(copy.record, part))
+        self.keep([copy], "accepted", NEXT, (), self.night.parts_with(copy.record, part), judged.open)
         copy.record.part = part
 
     # sets
@@ -279,15 +322,19 @@ class Judge:
                          "overlap may each have made something, and a set has one owner of what is made")
             return
         self.night.become(self.night.account(next(iter(makers), records[0].user)))
+        if any(map(self.is_too_long, copies)):
+            self.give_up(copies, f"{name}: not judged: places are open, and one has more than {causes.MOST_BYTES} bytes")
+            return
+        judged = self.reduce_set(copies)
         answer, note = self.best_answer(copies)
         if answer is None:
             self.give_up(copies, f"{name}: not judged: no order was found or refuted within "
                          f"{self.given.audit_seconds:g} seconds (--audit-seconds)")
         elif answer.status == sets.ACCEPTED:
-            self.accept_set(copies, name, answer.line + note)
+            self.accept_set(copies, name, f"{answer.line}{note}", judged)
         elif answer.status == sets.REFUSED:
             self.say(f"{name}: {answer.line}{note}", 1)
-            places = self.keep(copies, "refused", NONE, [answer.line])
+            places = self.keep_behind(copies, "refused", self.behind.behind_unjudged(copies), [answer.line])
             self.note_refusal(name, copies, places, answer.line)
         elif answer.status == sets.UNDECIDED:
             self.give_up(copies, f"{name}: not judged: {answer.line}{note}")
@@ -297,6 +344,13 @@ class Judge:
             self.give_up(copies, f"{name}: not judged: the search needs more than {self.bound()}")
         else:
             self.give_up(copies, f"{name}: not judged: sftpv3-together failed: {answer.line}")
+
+    def reduce_set(self, copies):
+        """Leaves out the requests of a set at open places. Gives what that is of all of them."""
+        left = self.behind.all_reduced(copies) if self.behind.open else None
+        for copy, it in zip(copies, left or [None] * len(copies)):
+            copy.left = it and it.data
+        return Judged(sets.MERGED, sum(it.count for it in left) if left else 0, left[0].open if left else None)
 
     def note_refusal(self, name, copies, places, line):
         """Notes which record of a set is refused."""
@@ -340,7 +394,7 @@ class Judge:
         for copy in copies:
             self.audit(copy, said_beside(copy.record, records))
 
-    def accept_set(self, copies, name, line):
+    def accept_set(self, copies, name, line, judged):
         """Accepts a set whose order `sftpv3 audit` accepts, too, and goes on from the tree at its end."""
         found = self.run_audit(copies, sets.MERGED, name, "")
         if found is None:
@@ -349,7 +403,7 @@ class Judge:
             self.give_up(copies, f"{name}: not judged: sftpv3 audit does not accept the order that was found: "
                          f"{' '.join(found.lines())}")
             return
-        self.accept(copies, f"{name}: {line}", line)
+        self.accept(copies, f"{name}: {line}{self.behind.but_for(judged.count)}", line, judged)
 
     def sender_of_malformed(self, refusal):
         """Who sent the packet for which a record is malformed, or None if it is no packet that is wrong."""
@@ -361,12 +415,16 @@ class Judge:
 
     # what becomes of copies
 
-    def accept(self, copies, text, first):
+    def is_partial(self, judged):
+        """Whether requests were left out, but for those that --volatile names."""
+        return bool(judged.count and self.behind.open.places)
+
+    def accept(self, copies, text, first, judged):
         """Says that copies are accepted, and goes on from the tree in which they end."""
         unanswered, status = said_of_unanswered(first)
-        self.say(text, status)
+        self.say(text, max(status, self.is_partial(judged)))
         self.night.say_lines(unanswered)
-        self.keep(copies, "accepted", NEXT)
+        self.keep(copies, "accepted", NEXT, opened=judged.open)
         self.summary.accepted += len(copies)
         self.unanswered += bool(unanswered) or "without a reply" in first
 
@@ -375,16 +433,18 @@ class Judge:
         self.say(text, 1)
         self.summary.unjudged += len(copies)
         if copies:
-            self.keep(copies, "unjudged", NONE)
+            has_tree = os.path.exists(TREE)
+            self.keep_behind(copies, "unjudged", self.behind.behind_unjudged(copies) if has_tree else None)
 
-    def keep(self, copies, kind, tree, verdict=(), parts=None):
+    def keep(self, copies, kind, tree, verdict=(), parts=None, opened=None):
         """Keeps copies, with a verdict beside each, and has their records out of the spool, whatever signal comes
-        meanwhile; but those of sessions that run stay there, of which `parts` says how far they are judged. What comes
-        behind those that are not accepted has no tree to start from. Returns where each copy is kept."""
+        meanwhile; but those of sessions that run stay there, of which `parts` says how far they are judged. `opened` is
+        what is open behind them, if it is something else than before. Returns where each copy is kept."""
         self.tell_endings(copies)
         places = []
         with ending.put_off():
-            decision = Decision(tree, self.night.parts_without(copies) if parts is None else parts)
+            decision = Decision(tree, self.night.parts_without(copies) if parts is None else parts,
+                                None if opened is None else opened.noted())
             is_noted = bool(verdict) and self.note_verdicts(copies, verdict)
             for copy in copies:
                 place = copy.place_in(kind)
@@ -396,6 +456,7 @@ class Judge:
             journal.carry_out(decision)
             self.night.numbers.settle()
             self.night.parts = self.night.parts if decision.parts is None else decision.parts
+            self.behind.note(decision, opened)
         self.kept += [(place, it.record.user) for place, it in zip(places, copies)]
         return places
 

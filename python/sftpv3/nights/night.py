@@ -15,6 +15,7 @@ from sftpv3.nights.bounds import Bounds, IsOver, Most, Room
 from sftpv3.nights.journal import AFTER, JOURNAL, NEXT, NONE, SAME, TREE, Decision
 from sftpv3.nights.judging import Judge, listed
 from sftpv3.nights.keeping import thin_out
+from sftpv3.nights.opening import Open
 from sftpv3.nights.parts import Part, reach_of
 from sftpv3.nights.records import MOST, NEW, Failed, Gone, NotTaken, Numbers, Spools
 from sftpv3.nights.running import run
@@ -32,7 +33,7 @@ SHARE = 3
 LEAST_SPACE = 1 << 28
 # What ended runs and audits may have left in the folder of a user.
 LEFT = ("tree.after", "tree.now", accounts.OWNED, ".sftpv3-", "journal.new", "parts.new", sets.MERGED, sets.ORDER,
-        "alone.")
+        "alone.", "open.")
 LEFT_FOLDERS = (NEW, sets.FOLDER)
 # A refused request alone.
 ALONE = "alone.transcript"
@@ -115,6 +116,10 @@ class Night:
     def space(self):
         """The address space that the program may have."""
         return max(4 * self.given.memory, LEAST_SPACE)
+
+    def may_go_on(self):
+        """Whether this night has time for another audit of a session."""
+        return time.monotonic() <= self.until
 
     def copy_bounds(self):
         """What bounds the copies of a record, or of those of a set. The first of a night has its whole time."""
@@ -338,12 +343,21 @@ class Night:
         else:
             self.become(self.given.accounts[0])
             self.tell_difference(now)
-        os.replace(now, AFTER)
-        journal.carry_out(Decision(NEXT, None if idle == self.parts else idle))
+        self.begin_from(now)
+        decision = Decision(NEXT, None if idle == self.parts else idle, [])
+        journal.carry_out(decision)
+        self.judge.behind.note(decision, None)
         self.parts = idle
         with open(self.compared, "w", encoding="utf-8"):
             os.utime(self.compared)
         return True
+
+    def begin_from(self, now):
+        """The next tree is that of the folders as they are now, but for what --volatile names."""
+        tree = self.judge.behind.without(now, Open((), self.judge.behind.patterns))
+        if tree is None:
+            raise Failed("what --volatile names cannot be left out of the tree")
+        os.replace(tree, AFTER)
 
     # why sessions were refused
 
@@ -426,7 +440,9 @@ class Night:
         return f"{self.summary.accepted} session{'' if self.summary.accepted == 1 else 's'} accepted{unanswered}"
 
     def tell_difference(self, now):
+        behind = self.judge.behind
         try:
+            now = behind.without(now, behind.open) or now
             found = self.run_program(MOST_LINES, "diff", TREE, now)
         except subprocess.TimeoutExpired:
             self.say(f"{self.counted()}; what changed cannot be told within {self.given.audit_seconds:g} seconds", 1)
@@ -439,7 +455,8 @@ class Night:
             raise Failed(f"sftpv3 diff ended with status {found.status}: {' '.join(found.lines())}")
         self.summary.folders = CHANGED if found.status else SAME_FOLDERS
         if found.status == 0:
-            self.say(f"{self.counted()}; the folder is as they left it")
+            but = f", but for {behind.named_open()}" if behind.open.places else ""
+            self.say(f"{self.counted()}; the folder is as they left it{but}", int(bool(but)))
             return
         unjudged = ", or requests of theirs that were not judged" if self.judge.unanswered else ""
         self.say(f"{self.counted()}; something else changed the folder{unjudged}:", 1)

@@ -443,6 +443,8 @@ class Copy:
 
     def __init__(self, record, numbers, bounds, stem="record", part=None):
         self.record, self.numbers, self.bounds, self.part = record, numbers, bounds, part
+        # what is judged of it, if it is not all
+        self.left = None
         os.makedirs(NEW, mode=0o700, exist_ok=True)
         self.place, self.times = os.path.join(NEW, f"{stem}.transcript"), os.path.join(NEW, f"{stem}.times")
         self.file = os.open(self.place, MADE, 0o600)
