@@ -12,5 +12,6 @@ sets     sessions that overlap
 mounts   sessions that run on
 causes   why a session is refused
 copies   what bounds the copies of records
+behind   what is judged behind a refusal, and what is not
 summaries what a night says for machines, and how long it keeps records
 """
