@@ -10,7 +10,7 @@ from night_trials.sets import WRITE, Client, Spooled, ended
 from record_trials.steps import PROGRAM
 from sftpv3 import codec
 from sftpv3.nights import opening
-from sftpv3.nights.opening import Open, Pattern, Place
+from sftpv3.nights.opening import Known, Open, Pattern, Place
 from trials.processes import executable
 
 # How many lies are told behind a refusal, how many of these a night has to refuse, and by which seed.
@@ -78,7 +78,8 @@ def lies_elsewhere(steps, place):
     ended(client)
     place.check(steps, "a lie about another place is refused, and what comes behind it is judged", 1,
                 f"{record.name}: refused record 6: NotAllowed", "expected: DATA",
-                'accepted 9 requests but for 2 open places ("', 'where 3 of them are', f"{record.name}: cause: the server")
+                'accepted 9 requests but for 2 open places ("', 'where 3 of them are',
+                f"{record.name}: cause: the server")
 
 
 def behind_unjudged(steps, place):
@@ -96,8 +97,8 @@ def behind_unjudged(steps, place):
                          f'sleep 60\nexec {PROGRAM} "$@"\n')
     place.check(steps, "behind a session that was not judged, what it may have changed is open", 1,
                 f"{first.name}: not judged: the audit did not end within 3 seconds", "  open from there on: \"",
-                "accepted 2 requests but for 1 open place (\"", "where 1 of them are", f"{ENDS_WELL}, but for 1 open place",
-                program=program, words=["--audit-seconds", "3"])
+                'accepted 2 requests but for 1 open place ("', "where 1 of them are",
+                f"{ENDS_WELL}, but for 1 open place", program=program, words=["--audit-seconds", "3"])
     place.check(steps, "the folder tells what was open", 0, "0 sessions accepted; " + ENDS_WELL + "\n")
 
 
@@ -156,8 +157,9 @@ def volatile(steps, place):
     live = os.fsencode(place.live)
     (place.live / "log").mkdir()
     (place.live / "f").write_bytes(b"right")
+    (place.live / "log/today").write_text("before the option was given")
     words = ["--volatile", str(place.live / "log"), "--volatile", str(place.live / "*.tmp")]
-    place.nightly(*words)
+    place.nightly()
     for _ in range(2):
         (place.live / "log/today").write_text("line\n" * random.randrange(1, 9))
         (place.live / "x.tmp").write_text("x")
@@ -220,7 +222,7 @@ def lies(steps, place):
     known = place.state / USER / "tree"
     given = Open([Place(bytes.fromhex(path), whole) for path, whole in
                   json.loads((place.state / USER / "open").read_text())])
-    links = {os.fsencode(place.live / "link"): b"f"}
+    links = Known({os.fsencode(place.live / "link"): b"f"}, {})
     with_late(place, known, true)
 
     def judged(data, tree):
@@ -228,7 +230,8 @@ def lies(steps, place):
         return audited(tree, alone)[0]
 
     def behind(data):
-        return judged(opening.reduced(data, b"/root", given, links).data, known)
+        left = opening.reduced(data, b"/root", given, links)
+        return judged(data if left is None else left.data, known)
 
     steps.check("the right session is accepted, from the true tree and behind the refusal",
                 (judged(data, true), behind(data)) == (0, 0), (judged(data, true), behind(data)))
@@ -286,7 +289,7 @@ def reduced(steps, _):
     """What is left out of a transcript, and what is open behind it, worked out by hand."""
     for name, given, exchanges, left, behind in CASES:
         data = codec.put_records([*codec.BEGUN, *wire(exchanges)])
-        found = opening.reduced(data, HOME, Open(given), {b"/link": b"/p"})
+        found = opening.reduced(data, HOME, Open(given), KNOWN)
         kept = [at for at, (asked, _) in enumerate(pairs_of(found.data)) if asked.name != "EXTENDED"]
         steps.check(f"reduced: {name}", kept == left and sorted(found.open.places) == sorted(behind),
                     (kept, list(found.open.places)))
@@ -310,13 +313,17 @@ GOOD, NONE, FAILED = ("STATUS", [0, b"", b""]), ("STATUS", [2, b"", b""]), ("STA
 HANDLE = ("HANDLE", [b"h"])
 ATTRS = ("ATTRS", [{"permissions": 0o100644}])
 P = Place(b"/p")
+# What is known of the tree of these cases.
+KNOWN = Known({b"/link": b"/p", b"/far": b"/d/e"}, {b"/d": (1, 2, 0o750)})
 # Each case: its name, what is open, the exchanges, the numbers of those that are left, and what is open behind them.
 CASES = (
     ("what is at an open place or below it", [P], [(("STAT", b"/p"), ATTRS), (("STAT", b"/p/in"), NONE),
                                                    (("STAT", b"/pp"), ATTRS)], [2], [P]),
-    ("a path that is written otherwise", [P], [(("STAT", b"../../x/../p"), ATTRS), (("STAT", b"//p/"), ATTRS)], [], [P]),
+    ("a path that is written otherwise", [P], [(("STAT", b"../../x/../p"), ATTRS), (("STAT", b"//p/"), ATTRS)], [],
+     [P]),
     ("a link that leads there", [P], [(("STAT", b"/link"), ATTRS), (("LSTAT", b"/link/x"), ATTRS)], [], [P]),
     ("a link that the session made", [P], [(("SYMLINK", b"p", b"/l"), GOOD), (("STAT", b"/l"), ATTRS)], [0], [P]),
+    ("a path that leads up behind a link", [Place(b"/d/p")], [(("STAT", b"/far/../p"), ATTRS)], [], [Place(b"/d/p")]),
     ("a handle of an open place, until it is given anew", [P], [
         (("OPEN", b"/p", 1, {}), HANDLE), (("READ", b"h", 0, 9), FAILED), (("CLOSE", b"h"), GOOD),
         (("OPEN", b"/q", 1, {}), HANDLE), (("READ", b"h", 0, 9), FAILED)], [3, 4], [P]),
@@ -353,11 +360,20 @@ def entries_of_listings(steps, _):
     exchanges = [(("OPENDIR", b"/"), HANDLE), (("READDIR", b"h"), ("NAME", [names])),
                  (("READDIR", b"h"), ("NAME", [names[1:2]]))]
     data = codec.put_records([*codec.BEGUN, *wire(exchanges)])
-    found = opening.reduced(data, HOME, Open([P]), {})
+    found = opening.reduced(data, HOME, Open([P]), KNOWN)
     pairs = pairs_of(found.data)
     steps.check("a listing is left without its entry, and one of it alone is left out", [
         it[0] for it in pairs[1][1].fields[0]] == [b".", b"q"] and pairs[2][0].name == "EXTENDED" and
         pairs[2][1].fields[0] == codec.OP_UNSUPPORTED and found.count == 1, pairs)
+    exchanges = [(("OPENDIR", b"/"), HANDLE), (("READDIR", b"h"), ("NAME", [[
+        (b"d", b"", {"owner": (0, 0), "permissions": 0o040777}), *names[1:]]]))]
+    told = opening.reduced(codec.put_records([*codec.BEGUN, *wire(exchanges)]), HOME, Open([Place(b"/d", False)]),
+                           KNOWN)
+    steps.check("of a directory whose attributes are open, a listing has those that are known",
+                pairs_of(told.data)[1][1].fields[0][0][2] == {"owner": (1, 2), "permissions": 0o040750}, told)
+    exchanges = [(("OPEN", b"/p", 1, {}), HANDLE), (("OPEN", b"/q", 1, {}), HANDLE)]
+    steps.check("where a handle is given twice, nothing is left out", opening.reduced(codec.put_records(
+        [*codec.BEGUN, *wire(exchanges)]), HOME, Open([P]), KNOWN) is None)
     steps.check("all records keep their numbers", len(codec.records(found.data)) == len(codec.records(data)))
 
 

@@ -75,8 +75,9 @@ def behind_the_end(steps, place):
     time.sleep(2)
     large = write_large(place, "20991231T000000Z", ended=time.time() - 1)
     slow, notes = slowed(place)
-    place.check(steps, "a copy is given up when the night is over, and waits", 1, ": accepted ", f"{large.name}: it and "
-                "what comes behind it wait for the next run, since this one took 2 seconds (--night-seconds)",
+    place.check(steps, "a copy is given up when the night is over, and waits", 1, ": accepted ",
+                f"{large.name}: it and what comes behind it wait for the next run, since this one took 2 "
+                "seconds (--night-seconds)",
                 script=slow, words=["--night-seconds", "2"])
     steps.check("the run ends with the night", len(notes.read_text()) <= PIECES, notes.read_text())
     steps.check("and the record stays", large.exists())

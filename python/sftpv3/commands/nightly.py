@@ -6,7 +6,10 @@ The first run makes the tree of the folders with sftpv3-tree. Each later run aud
 in the order of their starts, each from the tree in which the one before it ended, and then compares the last tree with
 the folders as they are. Each record goes into the folder accepted, refused (with the verdict beside it) or unjudged of
 the user's state. A session is unjudged if its audit takes more than --memory or --audit-seconds, or if there is no tree
-to start from: after such a session or a refused one, and before the first run. The tree is then made anew. Sessions
+to start from, as before the first run. Behind a refused or an unjudged session, the places that contradict the tree, or
+that it may have changed, are open: the next sessions are judged without their requests there, until the folders are
+compared. If nobody knows these places, the tree is made anew. A record of more than --most-copied bytes, or whose copy
+takes more than --audit-seconds, stays in --records, and is named by each run. Sessions
 that may have run at the same time are judged together, by sftpv3-together. A session that runs alone is judged as far
 as it went; those that ended beside or behind it wait, and nothing is compared unless it is quiet. Nor is anything
 compared once --night-seconds are over. Behind a refusal, a line has its cause.

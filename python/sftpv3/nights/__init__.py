@@ -11,6 +11,7 @@ auditing the options of an audit, and what its lines say
 accounts several accounts whose sessions change the same folders
 sets     sessions that sftpv3-together judges together
 causes   why a session was refused
+looking  whether a session asked for any change
 opening  places that are open, and sessions without their requests there
 behind   the tree behind a session that was not accepted, without these
 keeping  for how long copies of records are kept

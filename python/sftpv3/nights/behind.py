@@ -8,13 +8,14 @@ from typing import Dict, Iterator, List, NamedTuple, Optional, Sequence, Tuple
 from sftpv3.codec import BEGUN, CLIENT, SERVER, Malformed, Packet, encode, put_records, records, wording
 from sftpv3.nights import accounts, causes, journal, opening
 from sftpv3.nights.journal import AFTER, TREE
-from sftpv3.nights.opening import Contradicted, Open, Pattern, Place, Reduced
+from sftpv3.nights.opening import Contradicted, Known, Open, Pattern, Place, Reduced, led
+from sftpv3.nights.records import Failed, sync
 
 # A transcript without its requests at open places, one that removes such places or asks something alone, and the tree
 # without them.
 JUDGED, ASKED, WITHOUT = "open.transcript", "open.asked", "open.tree"
 # An entry as `sftpv3 show` prints it: its kind, its path, and the target of a link.
-ENTRY = re.compile(r'[0-9]+ ([A-Za-z]) "([^"]*)"(?: "([^"]*)")?.*')
+ENTRY = re.compile(r'[0-9]+ ([A-Za-z]) "([^"]*)"(?: "([^"]*)"| ([0-9]+) ([0-9]+) ([0-7]{4})|).*')
 # How many contradictions of a session are looked at, before all that it may have changed is open.
 MOST_ROUNDS = 16
 # How many places are named.
@@ -22,11 +23,13 @@ NAMED = 5
 
 
 class Entry(NamedTuple):
-    """An entry of a tree: its kind, its path, and the target if it is a link."""
+    """An entry of a tree: its kind, its path, the target if it is a link, and the owner, the group and the permissions
+    if it is a directory or a file."""
 
     kind: str
     path: bytes
     target: bytes
+    owner: Tuple[int, int, int]
 
     def is_directory(self) -> bool:
         return self.kind in "Dd"
@@ -64,10 +67,18 @@ class Behind:
             for line in shown.stdout:
                 found = ENTRY.fullmatch(line.decode(errors="surrogateescape").rstrip("\n"))
                 if found:
-                    yield Entry(found[1], causes.unescaped(found[2]), causes.unescaped(found[3] or ""))
+                    owner = int(found[4] or 0), int(found[5] or 0), int(found[6] or "0", 8)
+                    yield Entry(found[1], causes.unescaped(found[2]), causes.unescaped(found[3] or ""), owner)
 
-    def links(self) -> Dict[bytes, bytes]:
-        return {it.path: it.target for it in self.entries(TREE) if it.kind == "L"}
+    def known(self, given: Optional[Open] = None) -> Known:
+        """What is known of the tree, where these places are open."""
+        given, found = self.open if given is None else given, Known({}, {})
+        for it in self.entries(TREE):
+            if it.kind == "L":
+                found.links[it.path] = it.target
+            elif Place(it.path, False) in given.places:
+                found.owners[it.path] = it.owner
+        return found
 
     def children(self, folder: bytes) -> Dict[bytes, bool]:
         front = folder.rstrip(b"/") + b"/"
@@ -87,6 +98,17 @@ class Behind:
                                         WITHOUT).status
         return WITHOUT if status == 0 else None
 
+    def leave_out_volatile(self) -> None:
+        """Takes what --volatile names out of the tree, which has it if the option is new."""
+        if not self.patterns or not os.path.exists(TREE):
+            return
+        tree = self.without(TREE, Open((), self.patterns))
+        if tree is None:
+            raise Failed("what --volatile names cannot be left out of the tree")
+        if tree != TREE:
+            os.replace(tree, TREE)
+            sync(".")
+
     def write(self, name: str, data: bytes) -> None:
         with open(name, "wb") as file:
             file.write(data)
@@ -95,9 +117,9 @@ class Behind:
 
     def reduced(self, copy, given: Optional[Open] = None) -> Optional[Reduced]:
         """What is judged of a copy, if places are open; None if it is malformed, so that all of it is judged."""
+        given = self.open if given is None else given
         try:
-            return opening.reduced(accounts.data_of(copy), self.home(copy), self.open if given is None else given,
-                                   self.links())
+            return opening.reduced(accounts.data_of(copy), self.home(copy), given, self.known(given))
         except Malformed:
             return None
 
@@ -142,7 +164,7 @@ class Behind:
     def contradiction(self, data: bytes, copy, line: str) -> List[Place]:
         """The places that the refusal of a record is about."""
         record, kind = causes.place_of_refusal(line)
-        one = opening.contradicted(data, self.home(copy), record, self.links()) if kind == "NotAllowed" else None
+        one = opening.contradicted(data, self.home(copy), record, self.known()) if kind == "NotAllowed" else None
         if one is None:
             return []
         if one.names is None:
@@ -185,7 +207,9 @@ class Behind:
         tree = self.without(TREE, given)
         if tree is None:
             return "", None
-        left = opening.reduced(data, self.home(copy), given, self.links())
+        left = opening.reduced(data, self.home(copy), given, self.known(given))
+        if left is None:
+            return "", None
         self.write(JUDGED, left.data)
         found = self.night.run_program(1, "audit", *self.night.options, "--tree", tree, "--transcript", JUDGED, "--out",
                                        AFTER)
@@ -198,11 +222,14 @@ class Behind:
         for copy in copies:
             if os.fstat(copy.file).st_size > causes.MOST_BYTES:
                 return None
-            places = causes.touched(accounts.data_of(copy), self.home(copy))
+            try:
+                places = causes.touched(accounts.data_of(copy), self.home(copy))
+            except Malformed:
+                return None
             if places is None:
                 return None
-            links = self.links()
-            given.open(Place(it) for path in places for it in (path, causes.followed(path, links)))
+            links = self.known().links
+            given.open(Place(it) for path in places for it in (path, led(path, links)))
         try:
             tree = self.without(TREE, given)
         except subprocess.TimeoutExpired:

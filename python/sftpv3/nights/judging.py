@@ -11,6 +11,7 @@ from sftpv3.nights.behind import JUDGED, Behind
 from sftpv3.nights.behind import named as places_named
 from sftpv3.nights.bounds import NotCopied, TooMuch
 from sftpv3.nights.journal import AFTER, NEXT, NONE, SAME, TREE, Decision
+from sftpv3.nights.looking import changes_nothing
 from sftpv3.nights.opening import Open
 from sftpv3.nights.parts import Part, reach_of
 from sftpv3.nights.records import NEW, Copy, Failed, end_of_silence, is_empty
@@ -70,6 +71,10 @@ class Judged(NamedTuple):
     file: str
     count: int
     open: Optional[Open]
+
+    def tree(self):
+        """What becomes of the tree if it is accepted: nothing if it asked for no change."""
+        return SAME if changes_nothing(self.file) else NEXT
 
 
 class Judge:
@@ -165,7 +170,7 @@ class Judge:
             self.give_up([copy], f"{name}: not judged: places are open, and it has more than {causes.MOST_BYTES} bytes")
             return
         judged = self.judged_of(copy)
-        found = self.run_audit([copy], judged.file, name, note, pass_fds=[copy.file])
+        found = self.run_audit([copy], judged, name, note, pass_fds=[copy.file])
         if found is None:
             return
         first, *more = named(found.lines(), judged.file, name) or [""]
@@ -190,12 +195,13 @@ class Judge:
             self.say(f"  open from there on: {places_named(new)}")
         return self.keep(copies, kind, NEXT, verdict, opened=opened)
 
-    def run_audit(self, copies, transcript, name, note, pass_fds=()):
+    def run_audit(self, copies, judged, name, note, pass_fds=()):
         """The audit of a transcript from the tree, or None if it came to no verdict, which is said, and the copies are
-        put aside."""
+        put aside. The tree of the end is written if it can be another one."""
+        out = [] if judged.tree() == SAME else ["--out", AFTER]
         try:
             found = self.night.run_program(MOST_REASONS, "audit", *self.night.options, "--explain", "--tree", TREE,
-                                           "--transcript", transcript, "--out", AFTER, pass_fds=pass_fds)
+                                           "--transcript", judged.file, *out, pass_fds=pass_fds)
         except subprocess.TimeoutExpired:
             self.give_up(copies, f"{name}: not judged: the audit did not end within {self.given.audit_seconds:g} "
                          f"seconds (--audit-seconds){note}")
@@ -250,7 +256,7 @@ class Judge:
         name = copy.record.shown()
         self.night.become(self.night.account(copy.record.user))
         judged = self.judged_of(copy)
-        found = self.run_audit([], judged.file, f"{name}: still running", "", pass_fds=[copy.file])
+        found = self.run_audit([], judged, f"{name}: still running", "", pass_fds=[copy.file])
         if found is None:
             return False
         first, *more = named(found.lines(), judged.file, name) or [""]
@@ -270,14 +276,14 @@ class Judge:
     def go_on_behind(self, copy, found):
         """Keeps what was done up to a quiet moment, and goes on from its tree."""
         name, judged = copy.record.shown(), self.judged_of(copy)
-        done = self.run_audit([], judged.file, name, "", pass_fds=[copy.file])
+        done = self.run_audit([], judged, name, "", pass_fds=[copy.file])
         if done is None:
             return
         if done.status != 0:
             raise Failed(f"{name}: of what was accepted, a part is not: {' '.join(done.lines())}")
         before = copy.record.part or Part(found.head, found.head, 2)
         part = Part(before.at + found.quiet - found.head, found.head, before.count + found.quiet_count - 2)
-        self.keep([copy], "accepted", NEXT, (), self.night.parts_with(copy.record, part), judged.open)
+        self.keep([copy], "accepted", judged.tree(), (), self.night.parts_with(copy.record, part), judged.open)
         copy.record.part = part
 
     # sets
@@ -323,7 +329,8 @@ class Judge:
             return
         self.night.become(self.night.account(next(iter(makers), records[0].user)))
         if any(map(self.is_too_long, copies)):
-            self.give_up(copies, f"{name}: not judged: places are open, and one has more than {causes.MOST_BYTES} bytes")
+            self.give_up(copies, f"{name}: not judged: places are open, and one has more than {causes.MOST_BYTES} "
+                         "bytes")
             return
         judged = self.reduce_set(copies)
         answer, note = self.best_answer(copies)
@@ -396,7 +403,7 @@ class Judge:
 
     def accept_set(self, copies, name, line, judged):
         """Accepts a set whose order `sftpv3 audit` accepts, too, and goes on from the tree at its end."""
-        found = self.run_audit(copies, sets.MERGED, name, "")
+        found = self.run_audit(copies, judged, name, "")
         if found is None:
             return
         if found.status != 0:
@@ -424,7 +431,7 @@ class Judge:
         unanswered, status = said_of_unanswered(first)
         self.say(text, max(status, self.is_partial(judged)))
         self.night.say_lines(unanswered)
-        self.keep(copies, "accepted", NEXT, opened=judged.open)
+        self.keep(copies, "accepted", judged.tree(), opened=judged.open)
         self.summary.accepted += len(copies)
         self.unanswered += bool(unanswered) or "without a reply" in first
 

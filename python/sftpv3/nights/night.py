@@ -488,6 +488,7 @@ class Night:
 
     def run(self):
         self.thin_out()
+        self.judge.behind.leave_out_volatile()
         try:
             return self.judge_all()
         finally:

@@ -10,7 +10,7 @@ from typing import Dict, Iterable, List, NamedTuple, Optional, Sequence, Set, Tu
 from sftpv3.codec import (BEGUN, CLIENT, CREAT, EXCL, LAYOUTS, SERVER, Packet, encode, put_records, read, records,
                           status)
 from sftpv3.codec.packets import NO_SUCH_FILE, OK, OP_UNSUPPORTED, request
-from sftpv3.nights.causes import absolute, followed, is_failure, is_within, paths_of
+from sftpv3.nights.causes import MOST_LINKS, absolute, is_failure, is_within, paths_of
 
 # The extension that stands for a request at an open place.
 NOTHING = b"open-place@sftpv3.test"
@@ -101,18 +101,42 @@ class Reduced(NamedTuple):
     open: Open
 
 
+class Known(NamedTuple):
+    """What is known of the tree: where its links lead, and the owner, the group and the permissions of the directories
+    whose attributes are open."""
+
+    links: Dict[bytes, bytes]
+    owners: Dict[bytes, Tuple[int, int, int]]
+
+
+def led(path: bytes, links: Dict[bytes, bytes]) -> bytes:
+    """Where a path from the root leads by these links, as the system walks it."""
+    done: List[bytes] = []
+    names, count = path.split(b"/")[::-1], 0
+    while names:
+        name = names.pop()
+        target = links.get(b"/" + b"/".join([*done, name])) if count < MOST_LINKS else None
+        if name == b"..":
+            del done[-1:]
+        elif target is not None and name not in (b"", b"."):
+            done, count = [] if target.startswith(b"/") else done, count + 1
+            names += target.split(b"/")[::-1]
+        elif name not in (b"", b"."):
+            done.append(name)
+    return b"/" + b"/".join(done)
+
+
 class Reducing:
     """Goes through a transcript, and leaves out the requests at open places."""
 
-    def __init__(self, given: Open, home: bytes, links: Dict[bytes, bytes]) -> None:
-        self.open, self.home, self.links = given.copy(), home, dict(links)
+    def __init__(self, given: Open, home: bytes, known: Known) -> None:
+        self.open, self.home, self.links, self.owners = given.copy(), home, dict(known.links), known.owners
         # by which path a handle was opened, and whether that was left out
         self.handles: Dict[bytes, Tuple[bytes, bool]] = {}
 
     def ways(self, path: bytes) -> Tuple[bytes, bytes]:
         """A path by the letter, and where it leads by links."""
-        path = absolute(path, self.home)
-        return path, followed(path, self.links)
+        return absolute(path, self.home), led(os.path.join(self.home, path), self.links)
 
     def is_at(self, path: bytes) -> bool:
         return any(map(self.open.has, self.ways(path)))
@@ -177,15 +201,24 @@ class Reducing:
             self.links[absolute(link, self.home)] = target
 
     def listed(self, asked: Packet, reply: Packet) -> Optional[Packet]:
-        """The reply of a listing without the entries that are open; None if none is left."""
+        """The reply of a listing without the entries that are open, and with the attributes of the tree where these
+        are; None if no entry is left."""
         folder, _ = self.handles.get(asked.fields[0], (None, False))
         if folder is None:
             return reply
-        left = [it for it in reply.fields[0]
-                if it[0] in (b".", b"..") or not self.open.has_attributes(folder.rstrip(b"/") + b"/" + it[0])]
-        if len(left) == len(reply.fields[0]):
-            return reply
-        return Packet(reply.number, reply.name, [left]) if left else None
+        left = [self.known_of(folder, it) for it in reply.fields[0]
+                if it[0] in (b".", b"..") or not self.open.has(folder.rstrip(b"/") + b"/" + it[0])]
+        return reply if left == reply.fields[0] else Packet(reply.number, reply.name, [left]) if left else None
+
+    def known_of(self, folder: bytes, entry):
+        """An entry of a listing, with what is known of it if its attributes are open."""
+        name, line, told = entry
+        path = led(folder + b"/" + name, {})
+        if Place(path, False) not in self.open.places or path not in self.owners:
+            return entry
+        *owner, permissions = self.owners[path]
+        known = {"owner": tuple(owner), "permissions": DIRECTORY | permissions}
+        return name, line, {it: known.get(it, value) for it, value in told.items()}
 
 
 def first_string(data: bytes) -> bytes:
@@ -224,10 +257,28 @@ def paired(found: Sequence[Tuple[bytes, bytes]]) -> List[Tuple[int, Packet, Opti
     return pairs
 
 
-def reduced(data: bytes, home: bytes, given: Open, links: Dict[bytes, bytes]) -> Reduced:
-    """A transcript without its requests at open places. Malformed if a packet is."""
-    found, going, count = list(records(data)), Reducing(given, home, links), 0
-    for at, asked, reply_at, reply in paired(found):
+def is_given_twice(pairs) -> bool:
+    """Whether a handle was given while it was open: then its requests cannot be told apart."""
+    opened: Set[bytes] = set()
+    replied = sorted((it for it in pairs if it[3] is not None), key=lambda it: it[2])
+    for _, asked, _, reply in replied:
+        if reply.name == "HANDLE":
+            if reply.fields[0] in opened:
+                return True
+            opened.add(reply.fields[0])
+        elif asked.name == "CLOSE" and not is_failure(reply):
+            opened.discard(asked.fields[0])
+    return False
+
+
+def reduced(data: bytes, home: bytes, given: Open, known: Known) -> Optional[Reduced]:
+    """A transcript without its requests at open places; None if it cannot be told which these are. Malformed if a
+    packet is."""
+    found, going, count = list(records(data)), Reducing(given, home, known), 0
+    pairs = paired(found)
+    if is_given_twice(pairs):
+        return None
+    for at, asked, reply_at, reply in pairs:
         is_out = going.is_left_out(asked, reply)
         going.note(asked, reply, is_out)
         if not is_out and asked.name == "READDIR" and reply is not None and reply.name == "NAME":
@@ -285,10 +336,10 @@ class Contradicted(NamedTuple):
         return self.asked.name in OF_ATTRIBUTES and is_of_directory(self.reply)
 
 
-def contradicted(data: bytes, home: bytes, record: int, links: Dict[bytes, bytes]) -> Optional[Contradicted]:
+def contradicted(data: bytes, home: bytes, record: int, known: Known) -> Optional[Contradicted]:
     """What the reply with the number of a record was about; None if that is not known."""
     pairs = paired(list(records(data)))
-    going = Reducing(Open(), home, links)
+    going = Reducing(Open(), home, known)
     for _, asked, reply_at, reply in pairs:
         if reply_at is not None and reply_at == record - 1:
             by_handle = LAYOUTS[asked.name][1].startswith("handle")
