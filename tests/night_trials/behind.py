@@ -147,9 +147,14 @@ def in_sets(steps, place):
         client.get(place.live / "f")
         client.put(place.live / "g", b"bytes")
         ended(client)
-        place.check(steps, "behind a refused set, what it changed is open", 1, "judged together: refused: ",
-                    f'  open from there on: "{place.live}/f"', "accepted 6 requests but for 1 open place (",
-                    "where 3 of them are")
+        names = [it.name for it in spool.records()]
+        place.check(steps, "of a refused set the others are judged without what the wrong reply tells", 1,
+                    f"judged together: refused: {names[1]} record ", f'  open from there on: "{place.live}/f"',
+                    f"{names[0]}, judged without that: accepted 6 requests in 2 sessions but for 1 open place (",
+                    f"{names[2]}: accepted 6 requests but for 1 open place (", "where 3 of them are",
+                    f"{names[1]}: cause: the server", "2 sessions accepted")
+        steps.check("and kept so", [it.name for it in place.kept("refused")[2:] if it.suffix == ".transcript"] ==
+                    names[1:2], place.kept("refused"))
 
 
 def volatile(steps, place):

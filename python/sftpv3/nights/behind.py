@@ -8,7 +8,7 @@ from typing import Dict, Iterator, List, NamedTuple, Optional, Sequence, Tuple
 from sftpv3.codec import BEGUN, CLIENT, SERVER, Malformed, Packet, encode, put_records, records, wording
 from sftpv3.nights import accounts, causes, journal, opening
 from sftpv3.nights.journal import AFTER, TREE
-from sftpv3.nights.opening import Contradicted, Known, Open, Pattern, Place, Reduced, led
+from sftpv3.nights.opening import Contradicted, Known, Open, Pattern, Place, Reduced
 from sftpv3.nights.records import Failed, sync
 
 # A transcript without its requests at open places, one that removes such places or asks something alone, and the tree
@@ -19,7 +19,7 @@ ENTRY = re.compile(r'[0-9]+ ([A-Za-z]) "([^"]*)"(?: "([^"]*)"| ([0-9]+) ([0-9]+)
 # How many contradictions of a session are looked at, before all that it may have changed is open.
 MOST_ROUNDS = 16
 # How many places are named.
-NAMED = 5
+NAMED, NAMED_IN_EACH = 5, 2
 
 
 class Entry(NamedTuple):
@@ -35,10 +35,10 @@ class Entry(NamedTuple):
         return self.kind in "Dd"
 
 
-def named(places: Sequence[bytes]) -> str:
+def named(places: Sequence[bytes], most: int = NAMED) -> str:
     """The names of places, cut short."""
-    more = f" and {len(places) - NAMED} more" if len(places) > NAMED else ""
-    return ", ".join(map(wording.quoted, places[:NAMED])) + more
+    more = f" and {len(places) - most} more" if len(places) > most else ""
+    return ", ".join(map(wording.quoted, places[:most])) + more
 
 
 class Behind:
@@ -126,10 +126,14 @@ class Behind:
     def home(self, copy) -> bytes:
         return self.night.account(copy.record.user).home
 
-    def all_reduced(self, copies) -> Optional[List[Reduced]]:
+    def firm(self) -> Open:
+        """What is open, so that no session closes it."""
+        return Open(self.open.places, self.open.patterns, is_firm=True)
+
+    def all_reduced(self, copies, given: Optional[Open] = None) -> Optional[List[Reduced]]:
         """The same of sessions that may have run at the same time, none of which closes a place. What one of them opens
         is so for all."""
-        given = Open(self.open.places, self.open.patterns, is_firm=True)
+        given = self.firm() if given is None else given
         while True:
             found = [self.reduced(it, given) for it in copies]
             if None in found:
@@ -160,6 +164,21 @@ class Behind:
         except (Malformed, subprocess.TimeoutExpired):
             pass
         return self.behind_unjudged([copy])
+
+    def places_behind(self, copy, line: str) -> List[Place]:
+        """The same of a session of a set; none if that is not known."""
+        try:
+            return self.contradiction(accounts.data_of(copy), copy, line)
+        except (Malformed, subprocess.TimeoutExpired):
+            return []
+
+    def is_accepted(self, tree: str, transcript: str) -> bool:
+        """Whether the audit accepts a transcript from a tree; then AFTER has the tree of its end."""
+        try:
+            return self.night.run_program(1, "audit", *self.night.options, "--tree", tree, "--transcript", transcript,
+                                          "--out", AFTER).status == 0
+        except subprocess.TimeoutExpired:
+            return False
 
     def contradiction(self, data: bytes, copy, line: str) -> List[Place]:
         """The places that the refusal of a record is about."""
@@ -219,18 +238,12 @@ class Behind:
         """What is open behind sessions of which nothing is known but what they may have changed, with the tree without
         it in AFTER; None if that is not known either."""
         given = self.open.copy()
-        for copy in copies:
-            if os.fstat(copy.file).st_size > causes.MOST_BYTES:
-                return None
-            try:
-                places = causes.touched(accounts.data_of(copy), self.home(copy))
-            except Malformed:
-                return None
-            if places is None:
-                return None
-            links = self.known().links
-            given.open(Place(it) for path in places for it in (path, led(path, links)))
         try:
+            for copy in copies:
+                places = self.changed(copy)
+                if places is None:
+                    return None
+                given.open(places)
             tree = self.without(TREE, given)
         except subprocess.TimeoutExpired:
             return None
@@ -242,11 +255,26 @@ class Behind:
             os.replace(tree, AFTER)
         return given
 
+    def changed(self, copy) -> Optional[List[Place]]:
+        """The places that a session may have changed; None if these are not known. A SETSTAT of a directory changes its
+        attributes alone."""
+        if os.fstat(copy.file).st_size > causes.MOST_BYTES:
+            return None
+        try:
+            found = opening.changed(accounts.data_of(copy), self.home(copy), self.known())
+        except Malformed:
+            return None
+        if found is None:
+            return None
+        set_only = {path for path, is_of_attributes in found if is_of_attributes}
+        directories = {it.path for it in self.entries(TREE) if it.is_directory() and it.path in set_only}
+        return [Place(path, not (is_of_attributes and path in directories)) for path, is_of_attributes in found]
+
     # what is said
 
     def named_open(self) -> str:
         places = self.places()
-        return f"{len(places)} open place{'s' * (len(places) != 1)} ({named(places)})"
+        return f"{len(places)} open place{'s' * (len(places) != 1)} ({named(places, NAMED_IN_EACH)})"
 
     def but_for(self, count: int) -> str:
         """What is said of an accepted session of which so many requests were left out."""

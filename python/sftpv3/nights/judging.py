@@ -21,6 +21,8 @@ from sftpv3.system import children, ending
 
 # How many lines are printed of a refusal.
 MOST_REASONS = 100
+# How many refused replies of a set are looked at.
+MOST_ROUNDS = 4
 # How many sessions are named that ran at the same time.
 NAMED = 5
 
@@ -75,6 +77,16 @@ class Judged(NamedTuple):
     def tree(self):
         """What becomes of the tree if it is accepted: nothing if it asked for no change."""
         return SAME if changes_nothing(self.file) else NEXT
+
+
+class Rest(NamedTuple):
+    """What is said of a refused set without what contradicts it: which copies are refused, and by which line; how many
+    requests are left out; what is open then; and the line of those that are accepted."""
+
+    refused: dict
+    count: int
+    open: Open
+    line: str
 
 
 class Judge:
@@ -187,13 +199,16 @@ class Judge:
     def keep_behind(self, copies, kind, opened, verdict=()):
         """Keeps copies that are not accepted. What comes behind them starts from the tree without what is open then; if
         that is not known, it has none."""
-        before = set(self.behind.open.places)
         if opened is None:
             return self.keep(copies, kind, NONE, verdict)
-        new = [it.path for it in opened.places if it not in before]
+        self.tell_open(opened)
+        return self.keep(copies, kind, NEXT, verdict, opened=opened)
+
+    def tell_open(self, opened):
+        """Names what is open and was not so before."""
+        new = [it.path for it in opened.places if it not in self.behind.open.places]
         if new:
             self.say(f"  open from there on: {places_named(new)}")
-        return self.keep(copies, kind, NEXT, verdict, opened=opened)
 
     def run_audit(self, copies, judged, name, note, pass_fds=()):
         """The audit of a transcript from the tree, or None if it came to no verdict, which is said, and the copies are
@@ -341,6 +356,10 @@ class Judge:
             self.accept_set(copies, name, f"{answer.line}{note}", judged)
         elif answer.status == sets.REFUSED:
             self.say(f"{name}: {answer.line}{note}", 1)
+            rest = self.rest_of(copies, answer.line)
+            if rest:
+                self.keep_rest(copies, rest)
+                return
             places = self.keep_behind(copies, "refused", self.behind.behind_unjudged(copies), [answer.line])
             self.note_refusal(name, copies, places, answer.line)
         elif answer.status == sets.UNDECIDED:
@@ -359,29 +378,70 @@ class Judge:
             copy.left = it and it.data
         return Judged(sets.MERGED, sum(it.count for it in left) if left else 0, left[0].open if left else None)
 
+    def rest_of(self, copies, line):
+        """Judges a refused set without the places of the refused reply, which are open then, one reply after the other.
+        None if that does not come to an end."""
+        given, refused = self.behind.firm(), {}
+        for _ in range(MOST_ROUNDS):
+            copy = next((it for it in copies if f"refused: {os.path.basename(it.place)} record " in line), None)
+            places = self.behind.places_behind(copy, line) if copy and self.night.may_go_on() else None
+            if not places:
+                return None
+            refused.setdefault(copy, line)
+            given.open(places)
+            tree, left = self.behind.without(TREE, given), self.behind.all_reduced(copies, given)
+            if tree is None or left is None:
+                return None
+            for it, one in zip(copies, left):
+                it.left = one.data
+            answer, _ = self.best_answer(copies, tree)
+            if answer is None or answer.status not in (sets.ACCEPTED, sets.REFUSED):
+                return None
+            line = answer.line
+            if answer.status == sets.ACCEPTED:
+                return Rest(refused, sum(it.count for it in left), left[0].open, line) \
+                    if self.behind.is_accepted(tree, sets.MERGED) else None
+        return None
+
+    def keep_rest(self, copies, rest):
+        """Keeps the refused sessions of a set, and the others, which are accepted without what is open then."""
+        others = [it for it in copies if it not in rest.refused]
+        self.tell_open(rest.open)
+        before, self.behind.open = self.behind.open, rest.open
+        if others:
+            names = listed([it.record for it in others])
+            self.say(f"{names}, judged without that: {rest.line}{self.behind.but_for(rest.count)}", 1)
+        self.behind.open = before
+        lines = list(dict.fromkeys(rest.refused.values()))
+        places = self.keep(copies, "refused", NEXT, lines, opened=rest.open, accepted=others)
+        self.summary.accepted += len(others)
+        for copy, place in zip(copies, places):
+            if copy in rest.refused:
+                self.refusals.append(Refusal(copy.record.shown(), copy.record.user, place, rest.refused[copy]))
+
     def note_refusal(self, name, copies, places, line):
         """Notes which record of a set is refused."""
         for copy, place in zip(copies, places):
             if f"refused: {os.path.basename(copy.place)} record " in line:
                 self.refusals.append(Refusal(name, copy.record.user, place, line, count=len(copies)))
 
-    def best_answer(self, copies):
+    def best_answer(self, copies, tree=TREE):
         """What is said of a set, and a note on its times: by the times of its records if they have them. Otherwise the
         sessions may come one after the other; and if that explains nothing, in any order at all. None for the answer if
         the time was over."""
         if sets.are_of_one_clock(copies):
-            return self.answer(copies, sets.OWN), ""
-        found = self.answer(copies, sets.STARTS)
+            return self.answer(copies, sets.OWN, tree), ""
+        found = self.answer(copies, sets.STARTS, tree)
         if found is None or found.status in (sets.USAGE, sets.FAILED):
             return found, ""
         if found.status == sets.ACCEPTED:
             return found, ", one session after the other"
-        return self.answer(copies, sets.NOTHING), "; their times are not recorded"
+        return self.answer(copies, sets.NOTHING, tree), "; their times are not recorded"
 
-    def answer(self, copies, by):
+    def answer(self, copies, by, tree):
         """What sftpv3-together says, by its status and its last line; None if the time was over."""
         sets.lay_out(copies, by, self.homes(copies))
-        words = sets.words(TREE, self.night.options, self.given.steps)
+        words = sets.words(tree, self.night.options, self.given.steps)
         try:
             found = self.night.run_bounded(words, 1, env={**os.environ, "TMPDIR": os.path.abspath(NEW),
                                                           "SFTPV3": self.night.program})
@@ -443,10 +503,11 @@ class Judge:
             has_tree = os.path.exists(TREE)
             self.keep_behind(copies, "unjudged", self.behind.behind_unjudged(copies) if has_tree else None)
 
-    def keep(self, copies, kind, tree, verdict=(), parts=None, opened=None):
+    def keep(self, copies, kind, tree, verdict=(), parts=None, opened=None, accepted=()):
         """Keeps copies, with a verdict beside each, and has their records out of the spool, whatever signal comes
         meanwhile; but those of sessions that run stay there, of which `parts` says how far they are judged. `opened` is
-        what is open behind them, if it is something else than before. Returns where each copy is kept."""
+        what is open behind them, if it is something else than before; and `accepted` has those of them that are
+        accepted. Returns where each copy is kept."""
         self.tell_endings(copies)
         places = []
         with ending.put_off():
@@ -454,10 +515,10 @@ class Judge:
                                 None if opened is None else opened.noted())
             is_noted = bool(verdict) and self.note_verdicts(copies, verdict)
             for copy in copies:
-                place = copy.place_in(kind)
+                place = copy.place_in("accepted" if copy in accepted else kind)
                 places.append(place)
                 decision.moves += copy.moves_to(place)
-                if is_noted:
+                if is_noted and copy not in accepted:
                     decision.moves.append((copy.verdict(), f"{place}.verdict"))
                 decision.records += [copy.record] * (parts is None)
             journal.carry_out(decision)

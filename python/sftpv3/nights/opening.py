@@ -10,7 +10,7 @@ from typing import Dict, Iterable, List, NamedTuple, Optional, Sequence, Set, Tu
 from sftpv3.codec import (BEGUN, CLIENT, CREAT, EXCL, LAYOUTS, SERVER, Packet, encode, put_records, read, records,
                           status)
 from sftpv3.codec.packets import NO_SUCH_FILE, OK, OP_UNSUPPORTED, request
-from sftpv3.nights.causes import MOST_LINKS, absolute, is_failure, is_within, paths_of
+from sftpv3.nights.causes import MOST_LINKS, absolute, changed_by, is_failure, is_within, paths_of
 
 # The extension that stands for a request at an open place.
 NOTHING = b"open-place@sftpv3.test"
@@ -302,6 +302,25 @@ def removals(entries: Iterable[Tuple[bytes, bool]]) -> bytes:
         found.append((CLIENT, request(number, "RMDIR" if is_directory else "REMOVE", path)))
         found.append((SERVER, status(number, OK)))
     return put_records(found)
+
+
+# which places a session opens
+
+def changed(data: bytes, home: bytes, known: Known) -> Optional[List[Tuple[bytes, bool]]]:
+    """The places that a session may have changed, by the replies that it had, and whether that is in their attributes
+    alone; None if that is not known. Malformed if a packet is."""
+    going, found = Reducing(Open(), home, known), []
+    for _, asked, _, reply in paired(list(records(data))):
+        going.note(asked, reply, False)
+        if reply is not None and is_failure(reply):
+            continue
+        places = changed_by(asked, {handle: path for handle, (path, _) in going.handles.items()}
+                            if asked.name == "FSETSTAT" else {}, home)
+        if places is None:
+            return None
+        is_of_attributes = asked.name in ("SETSTAT", "FSETSTAT")
+        found += [(it, is_of_attributes) for path in sorted(places) for it in (path, led(path, going.links))]
+    return list(dict.fromkeys(found))
 
 
 # which places a refusal opens
