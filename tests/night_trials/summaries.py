@@ -6,8 +6,8 @@ import signal
 import subprocess
 import time
 
-from night_trials.place import ENDS_WELL, OLD, USER, environment
-from night_trials.sets import Client, Spooled, ended
+from night_trials.place import ENDS_WELL, OLD, USER
+from night_trials.sets import Spooled
 from record_trials.steps import INIT, receive
 from trials.processes import processes_of
 

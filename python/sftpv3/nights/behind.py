@@ -5,7 +5,7 @@ import re
 import subprocess
 from typing import Dict, Iterator, List, NamedTuple, Optional, Sequence, Tuple
 
-from sftpv3.codec import BEGUN, CLIENT, SERVER, Malformed, Packet, encode, put_records, records, wording
+from sftpv3.codec import BEGUN, CLIENT, SERVER, Malformed, Packet, encode, put_records, wording
 from sftpv3.nights import accounts, causes, journal, opening
 from sftpv3.nights.journal import AFTER, TREE
 from sftpv3.nights.opening import Contradicted, Known, Open, Pattern, Place, Reduced

@@ -101,10 +101,30 @@ def changed_by(request: Packet, opened: Dict[bytes, bytes], home: bytes) -> Opti
     return {absolute(it, home) for it in paths_of(request)} if is_changer else set()
 
 
-def touched(data: bytes, home: bytes) -> Optional[Set[bytes]]:
+class Touched:
+    """The places that sessions may have changed: those with what is below and above them, and those alone of which they
+    set attributes, or where a request with one path failed."""
+
+    def __init__(self) -> None:
+        self.near: Set[bytes] = set()
+        self.alone: Set[bytes] = set()
+
+    def add(self, request: Packet, places: Set[bytes], is_failed: bool) -> None:
+        is_alone = request.name in ("SETSTAT", "FSETSTAT") or is_failed and len(paths_of(request)) == 1
+        (self.alone if is_alone else self.near).update(places)
+
+    def take(self, other: "Touched") -> None:
+        self.near |= other.near
+        self.alone |= other.alone
+
+    def has(self, path: bytes) -> bool:
+        return path in self.alone or is_near(path, self.near)
+
+
+def touched(data: bytes, home: bytes) -> Optional[Touched]:
     """The places that a session may have changed; None if that is not known."""
-    found: Set[bytes] = set()
-    waiting: Dict[int, bytes] = {}
+    found = Touched()
+    waiting: Dict[int, Tuple[Packet, Set[bytes]]] = {}
     opened: Dict[bytes, bytes] = {}
     for number, (side, packet) in enumerate(records(data), 1):
         if number <= 2:
@@ -115,17 +135,18 @@ def touched(data: bytes, home: bytes) -> Optional[Set[bytes]]:
             if side == CLIENT:
                 return None
             continue
-        if side != CLIENT:
-            path = waiting.pop(one.number, None)
-            if one.name == "HANDLE" and path is not None:
-                opened[one.fields[0]] = path
-            continue
-        places = changed_by(one, opened, home)
-        if places is None:
-            return None
-        found |= places
-        if one.name in ("OPEN", "OPENDIR"):
-            waiting[one.number] = absolute(one.fields[0], home)
+        if side == CLIENT:
+            places = changed_by(one, opened, home)
+            if places is None:
+                return None
+            waiting[one.number] = one, places
+        elif one.number in waiting:
+            request, places = waiting.pop(one.number)
+            found.add(request, places, is_failure(one))
+            if one.name == "HANDLE":
+                opened[one.fields[0]] = absolute(request.fields[0], home)
+    for request, places in waiting.values():
+        found.add(request, places, False)
     return found
 
 
@@ -205,10 +226,10 @@ class Places:
     """What a night knows of the folder: where the folders are, what is mounted in them and left out, the links of the
     tree as it is now, and the places that sessions touched; None if these are not known."""
 
-    def __init__(self, folders: Sequence[bytes], links: Dict[bytes, bytes], places: Optional[Set[bytes]],
+    def __init__(self, folders: Sequence[bytes], links: Dict[bytes, bytes], places: Optional[Touched],
                  is_right_now: Callable[[bytes], bool]):
         self.folders, self.places, self.is_right_now = folders, places, is_right_now
-        self.links = {it: target for it, target in links.items() if places is not None and not is_near(it, places)}
+        self.links = {it: target for it, target in links.items() if places is not None and not places.has(it)}
 
     def is_outside(self, path: bytes) -> bool:
         return not any(is_within(followed(path, self.links), it) for it in self.folders)
@@ -233,7 +254,7 @@ class Places:
 
     def was_changed(self, data: bytes, before: Sequence[Exchange], last: Exchange, paths: Sequence) -> bool:
         """Whether the reply is right for the folder as it is now, and no session may have made that so."""
-        if self.places is None or None in paths or any(is_near(it, self.places) for it in paths):
+        if self.places is None or None in paths or any(map(self.places.has, paths)):
             return False
         asked = alone(data, before, last)
         return asked is not None and self.is_right_now(asked)

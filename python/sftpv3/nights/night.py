@@ -401,13 +401,13 @@ class Night:
         """The places that sessions of this night may have changed; None if these are not known."""
         if sum(os.path.getsize(place) for place, _ in self.judge.kept) > causes.MOST_BYTES:
             return None
-        found = set()
+        found = causes.Touched()
         for place, user in self.judge.kept:
             with open(place, "rb") as file:
                 places = causes.touched(file.read(), self.account(user).home)
             if places is None:
                 return None
-            found |= places
+            found.take(places)
         return found
 
     def is_right_from(self, tree, asked):
