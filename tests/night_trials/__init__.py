@@ -11,4 +11,7 @@ spools   strange files, dates, names and places of records
 sets     sessions that overlap
 mounts   sessions that run on
 causes   why a session is refused
+copies   what bounds the copies of records
+behind   what is judged behind a refusal, and what is not
+summaries what a night says for machines, and how long it keeps records
 """

@@ -114,13 +114,13 @@ def killed_when_accepting(steps, place):
 
 
 def struck_when_refusing(steps, place):
-    """A session that is accepted, one that is refused, and one that is not judged."""
+    """A session that is accepted, one that is refused, and one behind it."""
     place.begin("mkdir d")
     (place.live / "late").write_text("x")
     place.session(f"get late {place.room}/late")
     place.session("mkdir e")
     first, second, third = sorted(it.name for it in place.records.iterdir())
-    kept = {"accepted": [first], "refused": [second, f"{second}.verdict"], "unjudged": [third]}
+    kept = {"accepted": [first, third], "refused": [second, f"{second}.verdict"]}
     for blow in (KILL, FAIL):
         strike_nights(steps, place, "a refused session", kept, *blow)
 

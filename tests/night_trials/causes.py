@@ -34,12 +34,16 @@ def changed_locally(steps, place):
     live, new, old = os.fsencode(place.live), place.live / "new", place.live / "old"
     for name, change, ask in (
             ("a file was made", lambda: new.write_text("x"), lambda it: it.ask("STAT", live + b"/new")),
+            ("a file was made beside what a session set and could not make", lambda: new.write_text("y"),
+             lambda it: (it.ask("MKDIR", live, {}), it.ask("SETSTAT", live, {"permissions": 0o755}),
+                         it.ask("STAT", live + b"/new"))),
             ("a file was changed", lambda: old.write_text("changed"), lambda it: it.get(old)),
             ("a file was removed", (place.live / "gone").unlink, lambda it: it.ask("STAT", live + b"/gone")),
             ("a name was made", lambda: (place.live / "d/new").write_text("x"), lambda it: listed(it, live + b"/d"))):
         (place.live / "d").mkdir(exist_ok=True)
         for it in ("old", "gone"):
             (place.live / it).write_text("before")
+        new.unlink(missing_ok=True)
         place.nightly()
         change()
         client = Client(place.words)

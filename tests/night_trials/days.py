@@ -6,8 +6,9 @@ import time
 from pathlib import Path
 
 from night_trials.place import ENDS_WELL, OLD, USER, changed, rewrite
-from record_trials.steps import INIT, receive
+from record_trials.steps import INIT, PROGRAM, receive
 from sftpv3.codec import request
+from trials.processes import executable
 
 
 def before_the_first(steps, place):
@@ -139,7 +140,7 @@ def begun_meanwhile(steps, place):
     place.nightly()
     record = str(place.record("20261130T000000Z"))
     for begins, status, part in ((True, 0, "1 session accepted; " + ENDS_WELL),
-                                 (False, 3, "nightly: tree: /f: changed while it was read")):
+                                 (False, 3, f"nightly: {USER}: tree: /f: changed while it was read")):
         mark = str(place.room / f"mark-{begins}")
         script = changed(place, UNREAD.format(mark=mark, begins=begins, record=record))
         began = "began" if begins else "did not begin"
@@ -157,5 +158,35 @@ def overlapping(steps, place):
                 ", judged together: accepted ", "; their times are not recorded", "2 sessions accepted; " + ENDS_WELL)
 
 
-TRIALS = (before_the_first, of_another_mask, ordinary, changed_by_others, of_a_group, nothing_asked, running,
+# A program that notes the words with which it is called.
+NOTED = """#!/bin/sh
+echo "$*" >>{notes}
+exec {program} "$@"
+"""
+
+
+def of_looks(steps, place):
+    """A night costs what its sessions did: where they only looked, no tree is written."""
+    (place.live / "f").write_bytes(b"bytes")
+    place.nightly()
+    tree, notes = place.state / USER / "tree", place.room / "notes"
+    program = executable(place.room / "noted", NOTED.format(notes=notes, program=PROGRAM))
+    before = tree.stat().st_ino
+    for it in ("ls -l", f"get f {place.room}/got", "cd /"):
+        place.session(it)
+    script = changed(place, "from sftpv3.nights import night\nnight.Night.compare = lambda _: True")
+    place.check(steps, "sessions that look are accepted", 0, *[": accepted "] * 3, program=program, script=script)
+    audits = [it for it in notes.read_text().splitlines() if it.startswith("audit ")]
+    steps.check("for these no tree is written", len(audits) == 3 and not any("--out" in it for it in audits) and
+                tree.stat().st_ino == before, audits)
+    for it in ("mkdir d", "rmdir d", "chmod 600 f", f"put {place.room}/got f", "ln -s f l"):
+        notes.unlink()
+        place.session(it)
+        place.check(steps, f"{it.split()[0]}: a session that asks for a change", 0, ": accepted ", program=program,
+                    script=script)
+        steps.check("for this one a tree is written", notes.read_text().count("--out") == 1, notes.read_text())
+    place.check(steps, "and the folder is as they left it", 0, ENDS_WELL)
+
+
+TRIALS = (of_looks, before_the_first, of_another_mask, ordinary, changed_by_others, of_a_group, nothing_asked, running,
           begun_meanwhile, overlapping)

@@ -41,7 +41,7 @@ def signals(steps, place):
         steps.check(f"{number.name} ends a run with status {128 + number}, and all that it started",
                     status == 128 + number and not left and sorted(os.listdir(place.state / USER)) == [
                         "compared", "tree"] and
-                    said == f"nightly: {number.name} came; what is left waits for the next run\n",
+                    said == f"nightly: {USER}: {number.name} came; what is left waits for the next run\n",
                     f"{status} {left}: {said}")
     place.check(steps, "the next one goes on", 0, "2 sessions accepted; " + ENDS_WELL)
 

@@ -48,11 +48,11 @@ def wrong_replies(steps, place):
     # the second of the three is given a wrong byte
     rewrite(sorted(place.records.iterdir())[1], lambda data: data.replace(b"the right bytes", b"the wrong bytes"))
     status, said = place.nightly()
-    steps.check("a wrong byte is found", status == 1 and said.count(": accepted ") == 1 and
+    steps.check("a wrong byte is found", status == 1 and said.count(": refused ") == 1 and
                 "NotAllowed" in said and "expected: DATA" in said, said)
-    steps.check("what comes behind it is not judged", "not judged, since there is no tree" in said, said)
+    steps.check("what comes behind it is judged", said.count(": accepted ") == 2 and "requests but for" not in said, said)
     steps.check("records and verdict are kept apart", [len(place.kept(it)) for it in
-                ("accepted", "refused", "unjudged")] == [1, 2, 1], said)
+                ("accepted", "refused", "unjudged")] == [2, 2, 0], said)
     place.write_record("20200101T000000Z", b"SFTPTR01C\0\0", ended=1)
     place.check(steps, "a record that is cut is refused", 1, "sftpv3: transcript: record 1: Truncated")
 

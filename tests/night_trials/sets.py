@@ -151,8 +151,10 @@ def wrong_in_a_set(steps, place):
         steps.check("a stale reply in a set: it is refused, and names the two records", status == 1 and
                     f"{one.name}, {other.name}, judged together: refused: {other.name} record " in said and
                     f" is right before {one.name} record " in said and "us earlier" in said, said)
-        steps.check("both are kept with the verdict", [len([it for it in place.kept("refused") if it.suffix == end])
-                    for end in (".transcript", ".times", ".verdict")] == [2, 2, 2], place.kept("refused"))
+        steps.check("it is kept with the verdict, and the other one is accepted without that", [
+            len([it for it in place.kept("refused") if it.suffix == end])
+            for end in (".transcript", ".times", ".verdict")] == [1, 1, 1] and
+            f"{one.name}, judged without that: accepted " in said and len(place.kept("accepted")) == 2, said)
         (place.live / "f").write_bytes(b"older")
         place.nightly()
         one, other = stale(spool, place)

@@ -186,7 +186,7 @@ def full_state(steps, place):
         said = [it for _, it in ran]
         steps.check("a full state: status 3 until there is room, and each line names what it is about",
                     {it for it, _ in ran[:-1]} == {3} and len(ran) > 3 and
-                    not any("nightly: No space" in it for it in said) and "refused" not in "".join(said), said)
+                    not any(f"nightly: {USER}: No space" in it for it in said) and "refused" not in "".join(said), said)
         place.check(steps, "then both sessions are accepted", 0, "0 sessions accepted; " + ENDS_WELL)
         steps.check("and kept once", len(place.kept("accepted")) == 2 and not list(place.records.iterdir()))
 

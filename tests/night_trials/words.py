@@ -50,7 +50,7 @@ def no_state(steps, place):
     """A state that cannot be made is named whole: the system makes no folder in /sys."""
     place.state = Path("/sys/sftpv3-trial/state")
     place.check(steps, "a state that cannot be made: status 3, and where", 3,
-                f"nightly: {place.state / USER}: ")
+                f"nightly: {USER}: {place.state / USER}: ")
 
 
 # The program, with a version as that of one that ./sftpv3 had built without a proof.
@@ -63,7 +63,7 @@ exec {program} "$@"
 def not_proved(steps, place):
     """Nothing is judged by a program that nothing has proved, on the first night and on later ones."""
     program = executable(place.room / "unproved", UNPROVED.format(program=PROGRAM))
-    told = f"nightly: {program} is not proved, and a night's verdicts are those of the proved program\n"
+    told = f"nightly: {USER}: {program} is not proved, and a night's verdicts are those of the proved program\n"
     said = place.nightly(program=program)
     steps.check("a program that is not proved: status 3, and nothing is made", said == (3, told) and
                 not (place.state / USER).exists(), said)

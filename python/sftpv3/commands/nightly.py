@@ -6,7 +6,10 @@ The first run makes the tree of the folders with sftpv3-tree. Each later run aud
 in the order of their starts, each from the tree in which the one before it ended, and then compares the last tree with
 the folders as they are. Each record goes into the folder accepted, refused (with the verdict beside it) or unjudged of
 the user's state. A session is unjudged if its audit takes more than --memory or --audit-seconds, or if there is no tree
-to start from: after such a session or a refused one, and before the first run. The tree is then made anew. Sessions
+to start from, as before the first run. Behind a refused or an unjudged session, the places that contradict the tree, or
+that it may have changed, are open: the next sessions are judged without their requests there, until the folders are
+compared. If nobody knows these places, the tree is made anew. A record of more than --most-copied bytes, or whose copy
+takes more than --audit-seconds, stays in --records, and is named by each run. Sessions
 that may have run at the same time are judged together, by sftpv3-together. A session that runs alone is judged as far
 as it went; those that ended beside or behind it wait, and nothing is compared unless it is quiet. Nor is anything
 compared once --night-seconds are over. Behind a refusal, a line has its cause.
@@ -38,17 +41,28 @@ from sftpv3.nights.accounts import account
 from sftpv3.nights.auditing import WrongOption
 from sftpv3.nights.night import Night, Unsaid
 from sftpv3.nights.records import Failed
-from sftpv3.system import ending, program
+from sftpv3.nights.summary import Summary
+from sftpv3.system import ending, files, program, ways
 from sftpv3.system.parsers import Parser, number_from
+from sftpv3.system.replacing import Replacing
 from sftpv3.system.standard import end
 
 # How long an audit may take, to read the folders, and all audits of a run, in seconds. With the unit's 6 h the last
 # audit and look come to their end.
 AUDIT_SECONDS, LOOK_SECONDS, NIGHT_SECONDS = 600, 3600, 14400
+# The most bytes of a record, which each user can make as long as the spool allows.
+MOST_COPIED = 1 << 36
 
 
 # No night has as many seconds, and no process is given as much memory: the system takes no bounds of much more.
 MOST_TIME, MOST_MEMORY = 10**9, 1 << 60
+
+
+def volatile_path(text):
+    """A path of --volatile: from the root, as clients see it, and not the root itself."""
+    if not text.startswith("/") or not text.strip("/") or {".", "..", ""} & set(text.strip("/").split("/")):
+        raise argparse.ArgumentTypeError(f"invalid path from the root: {text!r}")
+    return os.fsencode(text)
 
 
 def options():
@@ -65,6 +79,8 @@ def options():
         help=f"the most memory of an audit ({program.MEMORY}); the tree file of the folders may have a third of it")
     add("--audit-seconds", metavar="N", type=number_from(1, MOST_TIME, float), default=AUDIT_SECONDS,
         help=f"the most time of an audit ({AUDIT_SECONDS})")
+    add("--most-copied", metavar="BYTES", type=number_from(1, MOST_MEMORY), default=MOST_COPIED,
+        help=f"the most bytes of a record that is copied and judged ({MOST_COPIED})")
     add("--steps", metavar="N", type=number_from(1, MOST_TIME), default=0,
         help="the most steps of a search for an order of sessions that overlap, as of sftpv3-together")
     add("--look-seconds", metavar="N", type=number_from(1, MOST_TIME, float), default=LOOK_SECONDS,
@@ -73,6 +89,16 @@ def options():
         help=f"after how much time no more audit is begun, and what is left waits for the next run ({NIGHT_SECONDS})")
     add("--longest", metavar="HOURS", type=number_from(0, MOST_TIME, float), default=0,
         help="for how long sessions that run may keep the folders from being compared, before the status is 1 (0)")
+    add("--json", metavar="FILE", help="write a summary of the night as one line of JSON (- is standard output)")
+    add("--metrics", metavar="FILE",
+        help="write it for the textfile collector of Prometheus, as in /var/lib/node_exporter/sftpv3-USER.prom")
+    add("--keep-days", metavar="N", type=number_from(0, MOST_TIME, float),
+        help="remove accepted and unjudged records that were kept for more days")
+    add("--keep-bytes", metavar="BYTES", type=number_from(0, MOST_MEMORY),
+        help="keep no more bytes of records: first the oldest accepted ones go, then unjudged, then refused ones")
+    add("--volatile", metavar="PATH", action="append", default=[], type=volatile_path,
+        help="what a program of the machine writes: nothing is claimed of it, or of what is below it; each name of the "
+             "path may have the signs * ? [] of a shell (repeatable)")
     add("--chroot", action="store_true", help="as of sftpv3-tree")
     add("--without-mounts", action="store_true", help="as of sftpv3-tree")
     add("--home", metavar="PLACE", help="as of sftpv3-tree")
@@ -90,7 +116,17 @@ def options():
         parser.error("--also: a user is named twice")
     if "/" in given.user:
         parser.error("a user's name has no slash")
+    if given.metrics == "-":
+        parser.error("--metrics: the collector reads a file")
     return given
+
+
+def write_for_all(name, text):
+    """Replaces a file by one that all may read: the collector runs as a user of its own."""
+    with Replacing(name) as new:
+        new.file.write(text.encode())
+        new.sync(0o644)
+        new.keep()
 
 
 def account_of(parser, name, given):
@@ -106,16 +142,13 @@ def tell(text):
     program.complain("nightly", text, 3)
 
 
-def main():
-    for stream in (sys.stdout, sys.stderr):
-        stream.reconfigure(errors="backslashreplace")
-    given = options()
-    os.umask(0o077)
+def judged(given, summary):
+    """The status of a night."""
     try:
         with ending.in_order():
-            return Night(given).run()
+            return Night(given, summary).run()
     except ending.Signalled as signal:
-        tell(f"{signal}; what is left waits for the next run")
+        tell(f"{given.user}: {signal}; what is left waits for the next run")
         return signal.status
     except Unsaid:
         return 3
@@ -123,8 +156,42 @@ def main():
         tell(f"behind --: {error}")
         return 2
     except (Failed, program.NotBuilt, OSError) as error:
-        tell(program.told(error))
+        tell(f"{given.user}: {program.told(error)}")
         return 3
+
+
+def written(given, summary, status):
+    """The status, once the summary of the night is written: also of one that failed, so that nobody takes the last good
+    one for it."""
+    try:
+        if given.json == "-":
+            sys.stdout.write(summary.as_json(status))
+        elif given.json:
+            files.write_text(given.json, summary.as_json(status))
+        if given.metrics:
+            write_for_all(given.metrics, summary.as_metrics(status))
+    except OSError as error:
+        tell(f"{given.user}: {program.told(error)}")
+        status = max(status, 3)
+    return status
+
+
+def main():
+    for stream in (sys.stdout, sys.stderr):
+        stream.reconfigure(errors="backslashreplace")
+    given = options()
+    os.umask(0o077)
+    try:
+        # the run goes into the folder of its state
+        for name in ("json", "metrics"):
+            if getattr(given, name) not in (None, "-"):
+                setattr(given, name, os.fsdecode(ways.from_root(os.fsencode(getattr(given, name)))))
+    except OSError as error:
+        tell(f"{given.user}: {program.told(error)}")
+        return 3
+    summary = Summary(given.user)
+    status = judged(given, summary)
+    return status if status == 2 else written(given, summary, status)
 
 
 def run():

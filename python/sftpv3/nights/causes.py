@@ -19,7 +19,7 @@ WIRE = re.compile(r"sftpv3: transcript: record ([0-9]+): ")
 LINK = re.compile(r'[0-9]+ L "(.*)" "(.*)"')
 ESCAPED = re.compile(rb"\\x([0-9a-f]{2})")
 
-OUTSIDE, FULL, LOCALLY = "outside", "a full disk", "changed locally"
+OUTSIDE, FULL, LOCALLY, OVERLAP = "outside", "a full disk", "changed locally", "overlap"
 SERVER_S, CLIENT_S, RECORD = "the server", "the client", "the record"
 # What each cause means, in a line.
 MEANS = {
@@ -37,6 +37,9 @@ MOST_LINKS, MOST_BYTES = 40, 1 << 26
 CHANGING = WRITE | APPEND | CREAT | TRUNC
 # Requests that change the places that they name, besides an OPEN to write.
 CHANGERS = ("SETSTAT", "REMOVE", "MKDIR", "RMDIR", "RENAME", "POSIX-RENAME", "HARDLINK", "SYMLINK")
+# Extensions that the audit does not judge, and that change nothing.
+LOOKING = {b"limits@openssh.com", b"statvfs@openssh.com", b"fstatvfs@openssh.com", b"expand-path@openssh.com",
+           b"users-groups-by-id@openssh.com", b"home-directory"}
 PATHS = ("path", "new_path", "link")
 
 
@@ -88,20 +91,62 @@ def is_failure(reply: Packet) -> bool:
     return reply.name == "STATUS" and reply.fields[0] != OK
 
 
-def touched(data: bytes, home: bytes) -> Optional[Set[bytes]]:
+def changed_by(request: Packet, opened: Dict[bytes, bytes], home: bytes) -> Optional[Set[bytes]]:
+    """The places that a request may change, where handles are open for these; None if that is not known."""
+    if request.name == "EXTENDED":
+        return set() if request.fields[0] in LOOKING else None
+    if request.name == "FSETSTAT":
+        return {opened[request.fields[0]]} if request.fields[0] in opened else None
+    is_changer = request.name in CHANGERS or request.name == "OPEN" and request.fields[1] & CHANGING
+    return {absolute(it, home) for it in paths_of(request)} if is_changer else set()
+
+
+class Touched:
+    """The places that sessions may have changed: those with what is below and above them, and those alone of which they
+    set attributes, or where a request with one path failed."""
+
+    def __init__(self) -> None:
+        self.near: Set[bytes] = set()
+        self.alone: Set[bytes] = set()
+
+    def add(self, request: Packet, places: Set[bytes], is_failed: bool) -> None:
+        is_alone = request.name in ("SETSTAT", "FSETSTAT") or is_failed and len(paths_of(request)) == 1
+        (self.alone if is_alone else self.near).update(places)
+
+    def take(self, other: "Touched") -> None:
+        self.near |= other.near
+        self.alone |= other.alone
+
+    def has(self, path: bytes) -> bool:
+        return path in self.alone or is_near(path, self.near)
+
+
+def touched(data: bytes, home: bytes) -> Optional[Touched]:
     """The places that a session may have changed; None if that is not known."""
-    found: Set[bytes] = set()
+    found = Touched()
+    waiting: Dict[int, Tuple[Packet, Set[bytes]]] = {}
+    opened: Dict[bytes, bytes] = {}
     for number, (side, packet) in enumerate(records(data), 1):
-        if side != CLIENT or number == 1:
+        if number <= 2:
             continue
         try:
-            request = read(side, packet)
+            one = read(side, packet)
         except Malformed:
-            return None
-        if request.name in ("EXTENDED", "FSETSTAT"):
-            return None
-        if request.name in CHANGERS or request.name == "OPEN" and request.fields[1] & CHANGING:
-            found |= {absolute(it, home) for it in paths_of(request)}
+            if side == CLIENT:
+                return None
+            continue
+        if side == CLIENT:
+            places = changed_by(one, opened, home)
+            if places is None:
+                return None
+            waiting[one.number] = one, places
+        elif one.number in waiting:
+            request, places = waiting.pop(one.number)
+            found.add(request, places, is_failure(one))
+            if one.name == "HANDLE":
+                opened[one.fields[0]] = absolute(request.fields[0], home)
+    for request, places in waiting.values():
+        found.add(request, places, False)
     return found
 
 
@@ -181,10 +226,10 @@ class Places:
     """What a night knows of the folder: where the folders are, what is mounted in them and left out, the links of the
     tree as it is now, and the places that sessions touched; None if these are not known."""
 
-    def __init__(self, folders: Sequence[bytes], links: Dict[bytes, bytes], places: Optional[Set[bytes]],
+    def __init__(self, folders: Sequence[bytes], links: Dict[bytes, bytes], places: Optional[Touched],
                  is_right_now: Callable[[bytes], bool]):
         self.folders, self.places, self.is_right_now = folders, places, is_right_now
-        self.links = {it: target for it, target in links.items() if places is not None and not is_near(it, places)}
+        self.links = {it: target for it, target in links.items() if places is not None and not places.has(it)}
 
     def is_outside(self, path: bytes) -> bool:
         return not any(is_within(followed(path, self.links), it) for it in self.folders)
@@ -209,7 +254,7 @@ class Places:
 
     def was_changed(self, data: bytes, before: Sequence[Exchange], last: Exchange, paths: Sequence) -> bool:
         """Whether the reply is right for the folder as it is now, and no session may have made that so."""
-        if self.places is None or None in paths or any(is_near(it, self.places) for it in paths):
+        if self.places is None or None in paths or any(map(self.places.has, paths)):
             return False
         asked = alone(data, before, last)
         return asked is not None and self.is_right_now(asked)

@@ -13,7 +13,7 @@ from sftpv3.nights.records import Record, Spools, sync
 JOURNAL = "journal"
 # The tree that sessions start from, the one in which an accepted session ends, and how far sessions that run are
 # judged.
-TREE, AFTER, PARTS = "tree", "tree.after", "parts"
+TREE, AFTER, PARTS, OPEN = "tree", "tree.after", "parts", "open"
 # What becomes of the tree: the one behind the session comes next, it stays, or there is none any more.
 NEXT, SAME, NONE = "next", "same", "none"
 
@@ -27,16 +27,17 @@ def named(record: Record) -> List:
 
 class Decision:
     """What is to be done at once: which files get which names, which records leave the spool, and what becomes of the
-    tree. `parts` has how far sessions that run are judged, or None: as far as before."""
+    tree. `parts` has how far sessions that run are judged, or None: as far as before; and `open` which places are
+    open, or None: the same as before. Where there is no tree, there are none."""
 
-    def __init__(self, tree: str, parts: Optional[Dict] = None):
-        self.tree, self.parts = tree, parts
+    def __init__(self, tree: str, parts: Optional[Dict] = None, open_places: Optional[List] = None):
+        self.tree, self.parts, self.open = tree, parts, [] if tree == NONE else open_places
         self.moves: List[Tuple[str, str]] = []
         self.records: List[Record] = []
 
     def text(self) -> str:
         return json.dumps({"moves": self.moves, "records": [named(it) for it in self.records], "tree": self.tree,
-                           "parts": self.parts})
+                           "parts": self.parts, "open": self.open})
 
 
 def write(name: str, text: str) -> None:
@@ -83,11 +84,12 @@ def finish_noted(noted: Dict, records: Iterable[Record]) -> None:
     elif noted["tree"] == NONE:
         with suppress(FileNotFoundError):
             os.remove(TREE)
-    if noted["parts"] == {}:
-        with suppress(FileNotFoundError):
-            os.remove(PARTS)
-    elif noted["parts"]:
-        write_whole(PARTS, json.dumps(noted["parts"]))
+    for name, held in (PARTS, noted["parts"]), (OPEN, noted.get("open")):
+        if held:
+            write_whole(name, json.dumps(held))
+        elif held is not None:
+            with suppress(FileNotFoundError):
+                os.remove(name)
     sync(".")
     os.remove(JOURNAL)
     sync(".")
@@ -117,6 +119,22 @@ def noted_last() -> Optional[Dict]:
             return json.load(file)
     except FileNotFoundError:
         return None
+
+
+def link(name: str, other: str) -> None:
+    """Gives a file a second name, in the place of what has it."""
+    with suppress(FileNotFoundError):
+        os.remove(other)
+    os.link(name, other)
+
+
+def open_places() -> List:
+    """The places that are open: of each its path, in hexadecimal, and whether all below it is open, too."""
+    try:
+        with open(OPEN, encoding="utf-8") as file:
+            return json.load(file)
+    except FileNotFoundError:
+        return []
 
 
 def parts() -> Dict:

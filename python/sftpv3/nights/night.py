@@ -6,16 +6,22 @@ import shutil
 import subprocess
 import sys
 import time
+from contextlib import suppress
 
 from sftpv3.codec import wording
 from sftpv3.nights import accounts, causes, journal, sets
 from sftpv3.nights.auditing import check_proved, options_of, try_options
-from sftpv3.nights.journal import AFTER, JOURNAL, NEXT, SAME, TREE, Decision
+from sftpv3.nights.bounds import Bounds, IsOver, Most, Room
+from sftpv3.nights.journal import AFTER, JOURNAL, NEXT, NONE, SAME, TREE, Decision
 from sftpv3.nights.judging import Judge, listed
+from sftpv3.nights.keeping import thin_out
+from sftpv3.nights.opening import Open
 from sftpv3.nights.parts import Part, reach_of
 from sftpv3.nights.records import MOST, NEW, Failed, Gone, NotTaken, Numbers, Spools
 from sftpv3.nights.running import run
 from sftpv3.nights.spans import groups, span_of
+from sftpv3.nights.summary import BEGUN, CAUSE_UNKNOWN, CHANGED, bytes_on_disk
+from sftpv3.nights.summary import SAME as SAME_FOLDERS
 from sftpv3.system import children, naming, program, ways
 
 TREE_COMMAND = program.command("tree")
@@ -27,7 +33,7 @@ SHARE = 3
 LEAST_SPACE = 1 << 28
 # What ended runs and audits may have left in the folder of a user.
 LEFT = ("tree.after", "tree.now", accounts.OWNED, ".sftpv3-", "journal.new", "parts.new", sets.MERGED, sets.ORDER,
-        "alone.")
+        "alone.", "open.")
 LEFT_FOLDERS = (NEW, sets.FOLDER)
 # A refused request alone.
 ALONE = "alone.transcript"
@@ -49,8 +55,8 @@ class Unsaid(Exception):
 class Night:
     """One run for one user."""
 
-    def __init__(self, given):
-        self.given, self.program = given, program.program()
+    def __init__(self, given, summary):
+        self.given, self.program, self.summary = given, program.program(), summary
         check_proved(self.program)
         self.options = options_of(self.program, given.audit)
         if not any(it.partition("=")[0] == "--memory" for it in self.options):
@@ -60,7 +66,7 @@ class Night:
         self.spool = Spools(given.records, [it.number for it in given.accounts])
         self.folders = [os.fsdecode(ways.from_root(os.fsencode(it))) for it in given.folders]
         self.status = 0
-        # when the night is over, and whether a record was looked at in it
+        # when the night is over, and whether a record was judged in it
         self.until, self.is_begun = time.monotonic() + given.night_seconds, False
         self.has_running = False
         # why the folders could not be read, while a session ran
@@ -76,8 +82,9 @@ class Night:
             raise Failed(f"another run for {given.user} has not ended") from None
         journal.finish(self.spool)
         self.tidy()
-        # how far sessions that run are judged, by their records
-        self.parts = journal.parts()
+        self.room = Room(self.held)
+        # how far sessions that run are judged, by their records; and those that were named since they stay unjudged
+        self.parts, self.named = journal.parts(), set()
         self.judge = Judge(self)
 
     def tidy(self):
@@ -109,6 +116,14 @@ class Night:
     def space(self):
         """The address space that the program may have."""
         return max(4 * self.given.memory, LEAST_SPACE)
+
+    def may_go_on(self):
+        """Whether this night has time for another audit of a session."""
+        return time.monotonic() <= self.until
+
+    def copy_bounds(self):
+        """What bounds the copies of a record, or of those of a set. The first of a night has its whole time."""
+        return Bounds(Most(self.given.most_copied, self.given.audit_seconds), self.room, self.is_over)
 
     def say_lines(self, lines):
         """Prints lines that belong to the one before them."""
@@ -143,18 +158,35 @@ class Night:
         ended = {key_of(it.record) for it in copies}
         return None if ended.isdisjoint(self.parts) else {it: at for it, at in self.parts.items() if it not in ended}
 
-    def note_part(self, record, part):
+    def note_part(self, record, part, tree=SAME):
         self.parts = self.parts_with(record, part)
-        journal.carry_out(Decision(SAME, self.parts))
+        journal.carry_out(Decision(tree, self.parts))
+
+    def leave(self, record):
+        """Leaves a record in the spool, whose session has ended. Each night names it, and none judges it."""
+        self.named.add(key_of(record))
+        self.note_part(record, Part(0, 0, 0, True, True), NONE)
+
+    def is_left(self, record):
+        """Whether a record was left in the spool unjudged, which is said once a night."""
+        if not (record.part and record.part.is_left):
+            return False
+        if key_of(record) not in self.named:
+            self.named.add(key_of(record))
+            self.say(f"{record.shown()}: not judged on an earlier night; it stays in the spool", 1)
+        return True
 
     def idle(self):
         """Where each record ends that is in the spool, if all are of sessions that run and are quiet, and are judged to
-        their ends or cannot be; else None."""
+        their ends or cannot be, or are left there; else None."""
         found = {}
         for record in self.spool.records():
             try:
                 record.open()
                 size, part = os.fstat(record.file).st_size, self.part_of(record)
+                if part is not None and part.is_left:
+                    found[key_of(record)] = [record.identity[1], *part]
+                    continue
                 is_judged = part is not None and (part.at == size or part.is_lost)
                 if not (is_judged and record.is_held()):
                     return None
@@ -191,8 +223,10 @@ class Night:
         for record in records:
             try:
                 record.open()
-                record.runs, record.span = record.is_running(), span_of(record)
                 record.part, record.size = self.part_of(record), os.fstat(record.file).st_size
+                if self.is_left(record):
+                    continue
+                record.runs, record.span = record.is_running(), span_of(record)
                 if record.runs:
                     record.span = record.span.until_now()
                 found.append(record)
@@ -205,23 +239,34 @@ class Night:
         return found
 
     def audit_these(self, records):
-        """Audits these records. Returns whether one of them is of a session that still runs, or the night is over."""
+        """Audits these records. Returns whether one of them is of a session that still runs, the night is over, or all
+        are left in the spool."""
         found = groups(self.looked_at(records))
+        if not found:
+            return True
         if len(records) >= MOST and len(found) > 1:
             # what overlaps the last ones may be among those that are not held
             found.pop()
         for place, group in enumerate(found):
             if self.is_over():
-                self.say(f"{group[0].shown()}: it and what comes behind it wait for the next run, since this one took "
-                         f"{self.given.night_seconds:g} seconds (--night-seconds)", 1)
+                self.tell_over(group)
                 return True
-            self.is_begun = True
             if any(it.runs for it in group):
                 self.judge_running([it for one in found[place:] for it in one])
+                self.is_begun = True
                 return True
-            if not self.has_judged(group):
-                return False
+            try:
+                if not self.has_judged(group):
+                    return False
+            except IsOver:
+                self.tell_over(group)
+                return True
+            self.is_begun = True
         return False
+
+    def tell_over(self, group):
+        self.say(f"{group[0].shown()}: it and what comes behind it wait for the next run, since this one took "
+                 f"{self.given.night_seconds:g} seconds (--night-seconds)", 1)
 
     def has_judged(self, group):
         """Judges a session, or those that may have run at the same time, unless a record is not there any more. Then
@@ -251,6 +296,7 @@ class Night:
         """Names the sessions that still run, and those that wait for them since they have ended beside or behind
         them."""
         running, waiting = ([it for it in records if it.runs is which] for which in (True, False))
+        self.summary.waiting = len(waiting)
         behind = f"; {len(waiting)} beside or behind wait{'s' * (len(waiting) == 1)}: {listed(waiting)}" \
             if waiting else ""
         self.say(f"{listed(running)}: still running; what runs is judged when it has ended{behind}", bool(waiting))
@@ -293,15 +339,25 @@ class Night:
             for line in found.lines(found.count - 1):
                 self.say(line)
             self.say(f"the tree of the start has {found.last.rpartition(': ')[2].partition(',')[0]}")
+            self.summary.folders = BEGUN
         else:
             self.become(self.given.accounts[0])
             self.tell_difference(now)
-        os.replace(now, AFTER)
-        journal.carry_out(Decision(NEXT, None if idle == self.parts else idle))
+        self.begin_from(now)
+        decision = Decision(NEXT, None if idle == self.parts else idle, [])
+        journal.carry_out(decision)
+        self.judge.behind.note(decision, None)
         self.parts = idle
         with open(self.compared, "w", encoding="utf-8"):
             os.utime(self.compared)
         return True
+
+    def begin_from(self, now):
+        """The next tree is that of the folders as they are now, but for what --volatile names."""
+        tree = self.judge.behind.without(now, Open((), self.judge.behind.patterns))
+        if tree is None:
+            raise Failed("what --volatile names cannot be left out of the tree")
+        os.replace(tree, AFTER)
 
     # why sessions were refused
 
@@ -310,14 +366,17 @@ class Night:
         refusals, self.judge.refusals = self.judge.refusals, []
         places = self.places_now(now) if now and refusals else None
         for it in refusals:
-            self.say(f"{it.name}: cause: {self.told_of(self.cause_of(it, places), it.beside)}")
+            cause = self.cause_of(it, places)
+            cause = causes.OVERLAP if cause == causes.SERVER_S and it.beside else cause
+            self.say(f"{it.name}: cause: {self.told_of(cause, it.beside)}")
+            self.summary.refused[cause or CAUSE_UNKNOWN] += it.count
 
     def told_of(self, cause, beside):
         """What is said of a cause. An overlap hides whether it is the server."""
-        if cause == causes.SERVER_S and beside:
+        if cause == causes.OVERLAP:
             return f"overlap{beside}, or the server: they were not judged together"
         if cause is None:
-            return f"not told: a session runs, or its record has more than {causes.MOST_BYTES} bytes"
+            return f"{CAUSE_UNKNOWN}: a session runs, or its record has more than {causes.MOST_BYTES} bytes"
         return f"{cause}: {causes.MEANS[cause]}"
 
     def cause_of(self, refusal, places):
@@ -342,13 +401,13 @@ class Night:
         """The places that sessions of this night may have changed; None if these are not known."""
         if sum(os.path.getsize(place) for place, _ in self.judge.kept) > causes.MOST_BYTES:
             return None
-        found = set()
+        found = causes.Touched()
         for place, user in self.judge.kept:
             with open(place, "rb") as file:
                 places = causes.touched(file.read(), self.account(user).home)
             if places is None:
                 return None
-            found |= places
+            found.take(places)
         return found
 
     def is_right_from(self, tree, asked):
@@ -378,10 +437,12 @@ class Night:
 
     def counted(self):
         unanswered = f", {self.judge.unanswered} of them with unanswered requests" if self.judge.unanswered else ""
-        return f"{self.judge.accepted} session{'' if self.judge.accepted == 1 else 's'} accepted{unanswered}"
+        return f"{self.summary.accepted} session{'' if self.summary.accepted == 1 else 's'} accepted{unanswered}"
 
     def tell_difference(self, now):
+        behind = self.judge.behind
         try:
+            now = behind.without(now, behind.open) or now
             found = self.run_program(MOST_LINES, "diff", TREE, now)
         except subprocess.TimeoutExpired:
             self.say(f"{self.counted()}; what changed cannot be told within {self.given.audit_seconds:g} seconds", 1)
@@ -392,8 +453,10 @@ class Night:
             return
         if found.status not in (0, 1):
             raise Failed(f"sftpv3 diff ended with status {found.status}: {' '.join(found.lines())}")
+        self.summary.folders = CHANGED if found.status else SAME_FOLDERS
         if found.status == 0:
-            self.say(f"{self.counted()}; the folder is as they left it")
+            but = f", but for {behind.named_open()}" if behind.open.places else ""
+            self.say(f"{self.counted()}; the folder is as they left it{but}", int(bool(but)))
             return
         unjudged = ", or requests of theirs that were not judged" if self.judge.unanswered else ""
         self.say(f"{self.counted()}; something else changed the folder{unjudged}:", 1)
@@ -411,7 +474,27 @@ class Night:
                 break
         return False
 
+    def thin_out(self):
+        """Removes what is kept for too long, or too much of it, and says so."""
+        for line in thin_out(self.given.keep_days, self.given.keep_bytes):
+            self.say(line)
+
+    def measure(self):
+        """Notes how much is in the spool and in the state, and when the folders were compared."""
+        self.summary.spool_bytes = sum(it.bytes_on_disk() for it in self.spool.each)
+        self.summary.state_bytes = bytes_on_disk(self.held)
+        with suppress(FileNotFoundError):
+            self.summary.compared = os.stat(self.compared).st_mtime
+
     def run(self):
+        self.thin_out()
+        self.judge.behind.leave_out_volatile()
+        try:
+            return self.judge_all()
+        finally:
+            self.measure()
+
+    def judge_all(self):
         if not self.reach_verdict():
             self.tell_causes(None)
             self.tell_not_compared()
@@ -420,4 +503,5 @@ class Night:
                 self.say(line, 1)
             if spool.refused:
                 self.say(*spool.refused)
+        self.thin_out()
         return self.status

@@ -16,12 +16,14 @@ PIECE = 1 << 20
 
 class Part(NamedTuple):
     """Where the part of a record begins that is not judged: behind so many bytes, of which those of INIT and VERSION
-    are the first ones, and behind so many records. `is_lost` if there is no tree from which it could be."""
+    are the first ones, and behind so many records. `is_lost` if there is no tree from which it could be, and `is_left`
+    if the session has ended, and its record stays in the spool unjudged."""
 
     at: int
     head: int
     count: int
     is_lost: bool = False
+    is_left: bool = False
 
 
 class Reach(NamedTuple):

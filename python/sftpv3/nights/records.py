@@ -12,11 +12,12 @@ import os
 import re
 import stat
 import time
-from contextlib import suppress
+from contextlib import nullcontext, suppress
 
 from sftpv3.codec import wording
 from sftpv3.recorder.packets import OPENING
 from sftpv3.spool.names import times_name
+from sftpv3.spool.sinks import ending_of, note_ending
 from sftpv3.system import mounted, naming, ways
 
 # The names that recorders give: none of them reads like a part of a line.
@@ -26,8 +27,12 @@ DATE = re.compile(r"[0-9]{8}T[0-9]{6}Z")
 DATE_OF_DAEMON = re.compile(r"([0-9]{8}T[0-9]{6}Z)-")
 # The most records that are held at a time: their users can make as many as they like.
 MOST = 10_000
+# The bytes of a block, of which the system says how many a file has.
+BLOCK = 512
 # How many files that are not taken for records are named.
 NAMED = 20
+# How a recorder says that a signal ended the server.
+CRASHED = "was ended by "
 # A record this young, in seconds, may be one whose recorder has only just made it.
 YOUNG = 1
 
@@ -90,6 +95,8 @@ class Record:
         self.span, self.runs, self.size = None, False, 0
         # where what is not judged of it begins, if a part of it is; else None
         self.part = None
+        # how its server ended, if its recorder says so
+        self.ending = ""
         # whose session it is, and whether that is said with its name, since there are several users
         self.user, self.is_of_several = None, False
 
@@ -121,6 +128,10 @@ class Record:
         if (identity_of(found), found.st_uid) != (self.identity, self.owner):
             raise Failed(f"{self.shown()}: it was replaced meanwhile")
         check_form(found)
+        self.ending = ending_of(self.file).decode(errors="replace")
+
+    def has_crashed_server(self):
+        return self.ending.startswith(CRASHED)
 
     def open_times(self):
         """Opens its file of times; None if there is none that a recorder made for it."""
@@ -188,6 +199,16 @@ def found_in(folder):
             with suppress(FileNotFoundError, PermissionError):
                 if times_name(entry.name):
                     yield entry.name, mounted.state_at(entry.name, folder, beside)
+
+
+def states_in(folder):
+    """The states of the regular files in a folder that is open, or of none."""
+    with os.scandir(folder) if folder is not None else nullcontext(()) as entries:
+        for entry in entries:
+            with suppress(FileNotFoundError, PermissionError):
+                found = entry.stat(follow_symlinks=False)
+                if stat.S_ISREG(found.st_mode):
+                    yield found
 
 
 def is_writable(state):
@@ -277,6 +298,12 @@ class Spool:
             date = DATE_OF_DAEMON.match(name)
             yield from self.taken(Record(self.own, name, state, date and date[1]), state)
 
+    def bytes_on_disk(self):
+        """The bytes that the user's files have on the disk: those in the folder that all share, and all in the
+        user's."""
+        shared = (it for it in states_in(self.shared) if it.st_uid == self.number)
+        return sum(BLOCK * it.st_blocks for it in itertools.chain(shared, states_in(self.own)))
+
     def taken(self, record, state):
         """The record, if it is as a recorder makes it."""
         try:
@@ -338,10 +365,11 @@ def data_behind(file, at, size):
         return size, size
 
 
-def copy_range(source, target, start, end, moved=0):
-    """Copies bytes to their place, or so many bytes before it."""
+def copy_range(source, target, start, end, bounds, moved=0):
+    """Copies bytes to their place, or so many bytes before it, within bounds."""
     at = start
     while at < end:
+        bounds.check(min(PIECE, end - at))
         piece = os.pread(source, min(PIECE, end - at), at)
         if not piece:
             raise OSError(errno.EIO, "it became shorter while it was read")
@@ -351,15 +379,15 @@ def copy_range(source, target, start, end, moved=0):
         at += len(piece)
 
 
-def copy(source, target, left_out=(0, 0)):
-    """Copies the bytes of a file into a new one, but for those from one place to another. Holes stay holes, so it takes
-    no more room than it did."""
+def copy(source, target, bounds, left_out=(0, 0)):
+    """Copies the bytes of a file into a new one within bounds, but for those from one place to another. Holes stay
+    holes, so it takes no more room than it did, where no bytes are shared with another file."""
     end = os.fstat(source).st_size
     first, at = left_out
-    copy_range(source, target, 0, first)
+    copy_range(source, target, 0, first, bounds)
     while at < end:
         begin, at = data_behind(source, at, end)
-        copy_range(source, target, begin, at, left_out[1] - first)
+        copy_range(source, target, begin, at, bounds, left_out[1] - first)
     os.truncate(target, end - (left_out[1] - first))
 
 
@@ -413,13 +441,17 @@ class Copy:
     """The copy of a record, and of its file of times if it has one, in a folder that only root can enter: under names
     of their own until they are kept. `stem` is what their names have in common there."""
 
-    def __init__(self, record, numbers, stem="record", part=None):
-        self.record, self.numbers, self.part = record, numbers, part
+    def __init__(self, record, numbers, bounds, stem="record", part=None):
+        self.record, self.numbers, self.bounds, self.part = record, numbers, bounds, part
+        # what is judged of it, if it is not all
+        self.left = None
         os.makedirs(NEW, mode=0o700, exist_ok=True)
         self.place, self.times = os.path.join(NEW, f"{stem}.transcript"), os.path.join(NEW, f"{stem}.times")
         self.file = os.open(self.place, MADE, 0o600)
         try:
-            copy(record.file, self.file, (part.head, part.at) if part else (0, 0))
+            copy(record.file, self.file, bounds, (part.head, part.at) if part else (0, 0))
+            if record.ending:
+                note_ending(self.file, record.ending.encode())
             os.fsync(self.file)
             self.has_times = self.copy_times()
         except BaseException:
@@ -436,7 +468,7 @@ class Copy:
                 return False
             target = os.open(self.times, MADE, 0o600)
             try:
-                copy(source, target, self.times_left_out())
+                copy(source, target, self.bounds, self.times_left_out())
                 os.fsync(target)
             finally:
                 os.close(target)

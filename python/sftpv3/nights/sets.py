@@ -121,9 +121,10 @@ def lay_out(copies: Sequence[Copy], by: str, homes: Sequence[bytes]) -> None:
     os.mkdir(FOLDER, 0o700)
     for number, copy in enumerate(copies):
         transcript, times = (os.path.join(FOLDER, os.path.basename(it)) for it in (copy.place, copy.times))
-        if homes:
+        if homes or copy.left is not None:
+            data = accounts.data_of(copy) if copy.left is None else copy.left
             with open(transcript, "wb") as file:
-                file.write(accounts.rooted(accounts.data_of(copy), homes[number]))
+                file.write(accounts.rooted(data, homes[number]) if homes else data)
         else:
             os.symlink(os.path.abspath(copy.place), transcript)
         if by == OWN:

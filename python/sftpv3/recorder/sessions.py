@@ -348,7 +348,8 @@ class Session:
             self.given_up = True
 
     def tell_server(self):
-        """Says how the server ended, if that ended the session or is its crash. The record does not have it."""
+        """Says how the server ended, if that ended the session or is its crash. What was recorded does not have it, so
+        it is said beside."""
         ended_itself = self.server.has_ended() and not self.killing
         if not self.first and not (ended_itself and self.server.has_crashed()):
             return
@@ -357,6 +358,8 @@ class Session:
         count = self.awaiting.requests_left()
         owed = f", with {count} request{'s' * (count > 1)} unanswered" if count else ""
         self.notices.say(f"the server {what}{when}{owed}")
+        if self.record:
+            self.record.note_ending(f"{what}{when}{owed}".encode())
 
     # the loop
 

@@ -4,6 +4,8 @@ A recorder connects and sends `SFTPSP01`, a byte with a length, and so many byte
 makes the record and replies with eight bytes 0. Then the recorder sends batches, each a length of four bytes and whole
 records, and the daemon replies with the number of bytes written so far, eight bytes, once for all batches that it found
 together. It closes the connection if it does not record (any further). A batch that does not come whole is not written.
+Last may come a length whose first bit is set, and so many bytes, which say how the server ended: an attribute of the
+record has them.
 
 Beside each record is a file of times on the clock of the boot, which no user can write either: a batch is timed when it
 has come, which is before the recorder passes on what is in it, so a request is no later there than at the server, and a
@@ -24,7 +26,7 @@ import time
 
 from sftpv3.spool.descriptors import Closing, received, refuse_descriptors
 from sftpv3.spool.shares import Accounts, Refused, Shares
-from sftpv3.spool.sinks import SPOOL_OPENING, peer
+from sftpv3.spool.sinks import ENDING_BIT, LONGEST_ENDING, SPOOL_OPENING, note_ending, peer
 from sftpv3.spool.timing import Times, boot
 from sftpv3.system import naming, ways
 
@@ -91,9 +93,15 @@ class Connection:
                 raise Refused("it does not speak as a recorder")
             return head + self.held[8]
         length = int.from_bytes(self.held[:4], "big")
+        if self.is_ending() and length - ENDING_BIT <= LONGEST_ENDING:
+            return head + length - ENDING_BIT
         if not 0 < length <= LONGEST_BATCH:
             raise Refused("its batch is too long" if length else "its batch is empty")
         return head + length
+
+    def is_ending(self):
+        """Whether what is held first says how the server ended."""
+        return self.file is not None and self.held[:1] >= b"\x80"
 
     def is_ready(self):
         """Whether something whole is held."""
@@ -112,12 +120,16 @@ class Connection:
         if batches:
             self.keep(batches)
             self.replies += struct.pack(">Q", self.written)
+        if self.is_ending() and self.is_ready():
+            end = self.end_of_first()
+            note_ending(self.file, bytes(self.held[4:end]))
+            del self.held[:end]
         self.write()
 
     def batches(self):
         """Takes the batches that are held whole."""
         found = []
-        while len(found) < BATCHES and self.is_ready():
+        while len(found) < BATCHES and self.is_ready() and not self.is_ending():
             end = self.end_of_first()
             found.append(bytes(self.held[4:end]))
             del self.held[:end]

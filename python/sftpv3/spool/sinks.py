@@ -21,6 +21,10 @@ BOOT_ID, BOOT_BYTES = "/proc/sys/kernel/random/boot_id", 16
 # How often the date is asked for, to have one between two close looks at the machine's own clock.
 TRIES = 5
 
+# The attribute of a record that says how its server ended, if that ended the session, and the most bytes of it. To a
+# spool it is sent behind a length of which this bit is set.
+ENDING, LONGEST_ENDING, ENDING_BIT = "user.sftpv3.ending", 255, 1 << 31
+
 # How many pieces one call writes at most.
 MOST_PIECES = 256
 
@@ -34,6 +38,22 @@ def peer(link):
 
 class Failed(Exception):
     """A sink that takes no more; why, in words."""
+
+
+def note_ending(file, text):
+    """Says of a record how its server ended, unless its file system has no attributes."""
+    try:
+        os.setxattr(file, ENDING, text[:LONGEST_ENDING])
+    except OSError:
+        pass
+
+
+def ending_of(file):
+    """What is said of a record so, or nothing."""
+    try:
+        return os.getxattr(file, ENDING)[:LONGEST_ENDING]
+    except OSError:
+        return b""
 
 
 class FileSink:
@@ -109,6 +129,10 @@ class FileSink:
                 os.ftruncate(self.file, self.written)
             except OSError:
                 pass
+
+    def note_ending(self, text):
+        if self.is_regular:
+            note_ending(self.file, text)
 
     def close(self):
         try:
@@ -219,6 +243,15 @@ class SpoolSink:
         if count:
             self.kept = struct.unpack(">Q", self.heard[8 * count - 8:8 * count])[0]
             self.heard = self.heard[8 * count:]
+
+    def note_ending(self, text):
+        """Sends how the server ended, as far as the socket takes it at once."""
+        text = text[:LONGEST_ENDING]
+        self.pending += struct.pack(">I", ENDING_BIT | len(text)) + text
+        try:
+            self.go_on()
+        except Failed:
+            pass
 
     def close(self):
         self.socket.close()
