@@ -74,7 +74,8 @@ impl<'a> Search<'a> {
         assumed: &mut Vec<Fact>,
     ) -> Result<(), NoMemory> {
         self.choices.put_assumed(choice, assumed)?;
-        if !self.is_home_told && world.needs_home {
+        let is_told = self.is_home_told && world.home == self.home;
+        if self.is_relative && !is_told {
             let place = Vec::from_slice(self.alloc, world.home.as_slice())?;
             let (says, told) = (Says::Home, 0);
             assumed.push(Fact { place, says, told })?;

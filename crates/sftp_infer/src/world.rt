@@ -7,6 +7,7 @@ use crate::handles::Handles;
 use crate::names::{Seat, Spot};
 use crate::nodes::{Held, Node, Slot, Sort};
 use crate::refusals::Guess;
+use crate::search::HEARD;
 use crate::settings::Settings;
 use sftp_path::NoMemory;
 use std::alloc::Global;
@@ -58,8 +59,6 @@ pub(crate) struct World {
     pub(crate) passes: u32,
     /// The entry that showed who owns what is made.
     pub(crate) owner_by: usize,
-    /// Whether a path was relative.
-    pub(crate) needs_home: bool,
     /// The contradiction that ends the pass, and what might resolve it.
     pub(crate) clash: Option<Clash>,
     pub(crate) proposals: Vec<Fact>,
@@ -113,7 +112,6 @@ impl World {
             spare: Vec::new(alloc),
             passes: 0,
             owner_by: 0,
-            needs_home: false,
             clash: None,
             proposals: Vec::new(alloc),
             asked: 0,
@@ -154,6 +152,12 @@ impl World {
     pub(crate) fn take_pieces(&mut self, count: u64) {
         let bytes = count.saturating_mul(PIECE_BYTES);
         self.taken = self.taken.saturating_add(bytes);
+    }
+
+    /// How far the pass came: the number of the request at hand, and more if refusals are taken.
+    pub(crate) fn progress(&self) -> u64 {
+        let heard = if self.hears { HEARD } else { 0 };
+        self.asked.saturating_add(heard)
     }
 
     /// The entry with this number.
