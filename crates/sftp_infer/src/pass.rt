@@ -193,6 +193,7 @@ impl World {
         self.owner_by = 0;
         self.skipped = false;
         self.spare.clear();
+        self.marks.clear();
         for at in 0..self.nodes.len() {
             self.rewind_at(at)?;
         }

@@ -194,7 +194,10 @@ impl World {
     fn explain(&mut self, case: &Case<'_>, code: u32) -> Result<(), Stop> {
         let choice = self.choose(case, code)?;
         match choice.chosen {
-            Some(chosen) if chosen.cost == 0 => Ok(()),
+            Some(chosen) if chosen.cost == 0 => {
+                self.cross_refusal();
+                Ok(())
+            }
             Some(chosen) => {
                 let others = choice.possible & !chosen.bit;
                 if others != 0 {

@@ -63,8 +63,10 @@ pub struct Search<'a> {
     pub(crate) homes: Vec<Vec<u8>>,
     /// What listings gave.
     pub(crate) listings: Listings,
-    /// How many requests of the session have replies, and how many names these have.
+    /// How many requests of the session have replies, with how many names these have.
     pub(crate) requests: u64,
+    /// How many requests have replies.
+    pub(crate) replies: u64,
     pub(crate) choices: Choices,
     pub(crate) passes: u32,
     pub(crate) work: u64,
@@ -104,6 +106,7 @@ impl<'a> Search<'a> {
             homes: Vec::new(alloc),
             listings: Listings::new(alloc),
             requests: 0,
+            replies: 0,
             choices: Choices::new(alloc),
             passes: 0,
             work: 0,
@@ -344,6 +347,7 @@ impl<'a> Search<'a> {
         let (ask, answer) = (exchange.ask, exchange.answer);
         let steps = count_of_names(answer).saturating_add(1);
         self.requests = self.requests.saturating_add(steps);
+        self.replies = self.replies.saturating_add(1);
         self.listings.note(exchange)?;
         self.look_for_homes(exchange)?;
         if self.is_home_told {

@@ -298,7 +298,10 @@ impl World {
             None => None,
         };
         match is_known {
-            Some(true) => Ok(()),
+            Some(true) => {
+                self.cross(self.told(at));
+                Ok(())
+            }
             Some(false) => self.clash_target(at, target),
             None => self.set_target(at, target),
         }

@@ -4,6 +4,7 @@ use crate::choices::Take;
 use crate::errors::{Clash, Stop};
 use crate::facts::{Fact, Says};
 use crate::handles::Handles;
+use crate::marks::Marks;
 use crate::names::{Seat, Spot};
 use crate::nodes::{Held, Node, Slot, Sort};
 use crate::refusals::Guess;
@@ -69,6 +70,8 @@ pub(crate) struct World {
     pub(crate) teller: u64,
     /// Whether memory ran out for a proposal: the exchange at hand ends the pass.
     pub(crate) lacks_memory: bool,
+    /// The replies that say what another record says, too.
+    pub(crate) marks: Marks,
     /// The steps of the pass, and how many bytes of memory its facts take, about.
     pub(crate) work: u64,
     pub(crate) taken: u64,
@@ -118,6 +121,7 @@ impl World {
             replied: 0,
             teller: 0,
             lacks_memory: false,
+            marks: Marks::new(alloc),
             work: 0,
             taken: 0,
         })
