@@ -264,7 +264,10 @@ impl Choices {
             None => (0, 0),
         };
         let progress = world.progress();
-        let from = Base { index: base, progress };
+        let from = Base {
+            index: base,
+            progress,
+        };
         let guesses = world.guesses.as_slice();
         let cost = self.guess_otherwise(from, self.cost(base), guesses, told, true)?;
         let cost = self.add_each(from, cost, world.proposals.as_slice())?;
@@ -273,12 +276,7 @@ impl Choices {
     }
 
     /// Adds a choice for each proposal. Returns the cost of the next one.
-    fn add_each(
-        &mut self,
-        base: Base,
-        cost: usize,
-        proposals: &[Fact],
-    ) -> Result<usize, NoMemory> {
+    fn add_each(&mut self, base: Base, cost: usize, proposals: &[Fact]) -> Result<usize, NoMemory> {
         let mut cost = cost;
         for fact in proposals.iter().take(PROPOSALS) {
             self.add_fact(base, fact, cost)?;

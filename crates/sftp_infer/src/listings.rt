@@ -32,12 +32,7 @@ impl World {
         Ok(())
     }
 
-    fn list_parts(
-        &mut self,
-        session: &[u8],
-        listed: &Listed,
-        listing: Opened,
-    ) -> Result<(), Stop> {
+    fn list_parts(&mut self, session: &[u8], listed: &Listed, listing: Opened) -> Result<(), Stop> {
         for part in listed.parts.iter() {
             self.say(part.replied);
             self.list_part(session, *part, listing)?;

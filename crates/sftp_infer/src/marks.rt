@@ -4,10 +4,7 @@ use crate::world::World;
 use sftp_path::NoMemory;
 use std::alloc::Global;
 
-/// How many records a word has.
-const BITS: u64 = 64;
-
-/// Records, a bit each.
+/// Records, a bit each: 64 to a word.
 #[derive(Drop)]
 pub(crate) struct Marks {
     words: Vec<u64>,
@@ -23,12 +20,12 @@ impl Marks {
 
     /// Adds the record with this number.
     fn add(&mut self, number: u64) -> Result<(), NoMemory> {
-        let place = (number / BITS) as usize;
+        let place = (number / 64) as usize;
         for _ in self.words.len()..=place {
             self.words.push(0)?;
         }
         if let Some(word) = self.words.get_mut(place) {
-            *word |= 1_u64 << (number % BITS);
+            *word |= 1_u64 << (number % 64);
         }
         Ok(())
     }

@@ -47,12 +47,7 @@ impl<'a> Search<'a> {
     }
 
     /// The same by the exchange of one of these records that was asked first.
-    fn is_sure_from(
-        &self,
-        first: &mut Exchanges,
-        told: u64,
-        found: u64,
-    ) -> Result<bool, NoMemory> {
+    fn is_sure_from(&self, first: &mut Exchanges, told: u64, found: u64) -> Result<bool, NoMemory> {
         for _ in 0..u64::MAX {
             match first.next(self.session)? {
                 Some(exchange) if has(exchange, told) => {
@@ -93,8 +88,10 @@ impl<'a> Search<'a> {
             if exchange.asked < first.asked {
                 appends = appends_after(appends, exchange, first.ask);
             } else if has(exchange, other) {
-                return Ok(are_at_odds(first, exchange, between)
-                    || !appends && are_bytes_at_odds(first, exchange, between));
+                return Ok(
+                    are_at_odds(first, exchange, between)
+                        || !appends && are_bytes_at_odds(first, exchange, between),
+                );
             } else if exchange.asked > first.asked {
                 between.add(exchange, first.ask);
             }
@@ -107,7 +104,8 @@ impl Between {
     /// Takes what a request did that comes between.
     fn add(&mut self, exchange: Exchange<'_>, first: &Ask) {
         self.changes = self.changes || changes(exchange.ask, exchange.answer);
-        self.changes_files = self.changes_files || may_change_file(exchange.ask, exchange.answer)
+        self.changes_files = self.changes_files
+            || may_change_file(exchange.ask, exchange.answer)
             || closes(exchange.ask, first);
     }
 }
@@ -161,8 +159,7 @@ fn closes(ask: &Ask, first: &Ask) -> bool {
 fn appends_after(appends: bool, exchange: Exchange<'_>, first: &Ask) -> bool {
     match (exchange.ask, exchange.answer, handle_of(first)) {
         (Ask::Open { pflags, .. }, Answer::Handle(handle), Some(used))
-            if handle.as_slice() == used =>
-        {
+            if handle.as_slice() == used => {
             OpenFlags::from_bits_retain(*pflags).contains(OpenFlags::APPEND)
         }
         _ => appends,

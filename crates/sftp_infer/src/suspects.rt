@@ -45,7 +45,11 @@ impl World {
             self.propose_for_each(suspects.as_slice());
         }
         drop(suspects);
-        if self.lacks_memory { Err(NoMemory) } else { found }
+        if self.lacks_memory {
+            Err(NoMemory)
+        } else {
+            found
+        }
     }
 
     /// Appends the entries that may be something else than they seem, those on the ways of the request first.
@@ -175,7 +179,12 @@ impl World {
 
     /// A target of a link at the place of an entry that leads to another one, of this length if one is told; `None` if
     /// there is none, and if memory runs out, which is noted.
-    pub(crate) fn target_to(&mut self, at: usize, end: usize, length: Option<u64>) -> Option<Vec<u8>> {
+    pub(crate) fn target_to(
+        &mut self,
+        at: usize,
+        end: usize,
+        length: Option<u64>,
+    ) -> Option<Vec<u8>> {
         match self.spelled_target(at, end, length) {
             Ok(target) => target,
             Err(_) => {

@@ -10,8 +10,8 @@ ghost use Rattle.sftp_inferring.specs.Inferences.{AreWritten, IsInferred, with_u
 
 use crate::inferences::{Found, Inferred, Judging, find};
 use crate::inferred_lines::{
-    put_assumed, put_checked, put_clash, put_excess, put_exchange, put_refusal, put_spent, put_strictness,
-    put_way,
+    put_assumed, put_checked, put_clash, put_excess, put_exchange, put_refusal, put_spent,
+    put_strictness, put_way,
 };
 use crate::inferred_objects::{print_inferred, print_unfit, print_untold};
 use sftp_audit::Refusal;
