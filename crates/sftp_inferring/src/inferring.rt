@@ -412,7 +412,9 @@ fn accept<'a, T: Stores<'a>, K: Stores<'a>, R: System, O: Write, E: Write>(
 {
     write_files(rt, options, inferred, tree, out)?;
     put_assumed(&inferred.candidate, errors);
-    put_checked(&inferred.candidate, errors);
+    if options.explains {
+        put_checked(&inferred.candidate, errors);
+    }
     if options.is_json {
         return print_object(rt.alloc(), inferred, output);
     }
