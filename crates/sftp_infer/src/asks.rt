@@ -56,8 +56,20 @@ impl Asks {
         }
     }
 
+    /// Whether it is asked of a link.
+    fn is_of_link(self) -> bool {
+        match self {
+            Asks::Astray => true,
+            Asks::Loops => true,
+            _ => false,
+        }
+    }
+
     /// What this costs of something of this kind; `None` if it is not so.
     fn cost_of_sort(self, sort: Sort) -> Option<u32> {
+        if self.is_of_link() && sort == Sort::Unknown {
+            return Some(WAY);
+        }
         let fits = match self {
             Asks::Something | Asks::Place => return Some(0),
             Asks::Directory | Asks::Full => sort == Sort::Directory,
@@ -65,12 +77,8 @@ impl Asks {
             Asks::NoFile => sort != Sort::File,
             Asks::NoLink => sort != Sort::Link,
             Asks::Nothing | Asks::Lost | Asks::Blocked => return None,
-            Asks::Astray | Asks::Loops => {
-                return if sort == Sort::Unknown {
-                    Some(WAY)
-                } else {
-                    None
-                };
+            Asks::Astray | Asks::Loops => return None,
+        };
             }
         };
         if sort == Sort::Unknown {
