@@ -79,8 +79,6 @@ impl Asks {
             Asks::Nothing | Asks::Lost | Asks::Blocked => return None,
             Asks::Astray | Asks::Loops => return None,
         };
-            }
-        };
         if sort == Sort::Unknown {
             return Some(1);
         }
