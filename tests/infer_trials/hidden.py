@@ -47,6 +47,8 @@ def attempt(folder, seed):
     transcript = os.path.join(tempfile.mkdtemp(dir=folder), "session.transcript")
     Path(transcript).write_bytes(records)
     found, said = judging.accepted_without(program.program(), transcript)
+    if " contradicts " in said:
+        raise judging.Wrong(f"seed {seed}: of a session that its tree explains it is said: {said}")
     if found and not audit(Path(f"{transcript}.inferred").read_bytes(), records)[0].startswith("accepted"):
         raise judging.Wrong(f"seed {seed}: the model refuses the session with the tree that was found")
     return Tried(seed, emphasis, count, found, said)
