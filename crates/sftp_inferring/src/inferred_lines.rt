@@ -258,8 +258,8 @@ fn other_words(what: What) -> &'static str {
     }
 }
 
-/// Writes both records at which the search ended, what each told, and how many passes were tried. If memory runs out, it
-/// says so, and no more.
+/// Writes both records at which the search ended, what each told, and how many passes were tried. If memory runs out,
+/// it says so, and no more.
 pub(crate) fn put_clash<E: Write>(
     alloc: Global,
     session: &[u8],
