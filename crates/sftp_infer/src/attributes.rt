@@ -162,7 +162,10 @@ impl World {
                 self.owner_by = at;
                 Ok(())
             }
-            Some(known) if known == owner || !self.settings.is_strict => Ok(()),
+            Some(known) if known == owner || !self.settings.is_strict => {
+                self.cross(rights.told);
+                Ok(())
+            }
             Some(known) => {
                 if rights.owner.is_none() && !is_old {
                     self.revive(self.owner_by)?;
@@ -180,7 +183,10 @@ impl World {
                 self.set_rights(at, rights);
                 Ok(())
             }
-            Some(known) if known == permissions => Ok(()),
+            Some(known) if known == permissions => {
+                self.cross(rights.told);
+                Ok(())
+            }
             Some(known) => self.mismatch(at, What::Permissions(known, permissions)),
         }
     }

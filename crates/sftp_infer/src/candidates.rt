@@ -19,6 +19,10 @@ pub struct Candidate<'a> {
     pub assumed: Vec<Fact>,
     /// Whether it has higher limits than the usual ones, since the session needs them.
     pub is_large: bool,
+    /// How many replies the session has, and how many of them say what another record says, too. Of the others nobody
+    /// knows whether they are right: the tree has what they alone tell.
+    pub replies: u64,
+    pub checked: u64,
 }
 
 /// Why there is no tree of what a session tells: it would be larger than it may.
@@ -57,6 +61,8 @@ impl<'a> Search<'a> {
                 entries,
                 assumed,
                 is_large: world.is_large(),
+                replies: self.replies,
+                checked: world.marks.count().min(self.replies),
             })),
             Err(error) => {
                 drop(tree);
@@ -74,7 +80,8 @@ impl<'a> Search<'a> {
         assumed: &mut Vec<Fact>,
     ) -> Result<(), NoMemory> {
         self.choices.put_assumed(choice, assumed)?;
-        if !self.is_home_told && world.needs_home {
+        let is_told = self.is_home_told && world.home == self.home;
+        if self.is_relative && !is_told {
             let place = Vec::from_slice(self.alloc, world.home.as_slice())?;
             let (says, told) = (Says::Home, 0);
             assumed.push(Fact { place, says, told })?;

@@ -6,9 +6,10 @@ use crate::refusals::Guess;
 use crate::world::World;
 use sftp_path::NoMemory;
 use std::alloc::Global;
+use std::collections::BTreeMap;
 
 /// The most proposals that a contradiction adds to the search.
-const PROPOSALS: usize = 8;
+const PROPOSALS: usize = 256;
 
 /// The most refusals for which another reason is tried after a contradiction.
 const GUESSES: usize = 8;
@@ -25,6 +26,13 @@ pub(crate) struct Take {
     pub(crate) reason: u32,
 }
 
+/// A choice that others add to, and how far its pass came.
+#[derive(Clone, Copy)]
+pub(crate) struct Base {
+    pub(crate) index: usize,
+    pub(crate) progress: u64,
+}
+
 /// A set of facts to begin a pass with.
 #[derive(Drop)]
 pub(crate) struct Choice {
@@ -34,6 +42,10 @@ pub(crate) struct Choice {
     pub(crate) take: Option<Take>,
     /// How many proposals were passed over for it.
     pub(crate) cost: usize,
+    /// How far the pass came whose contradiction it may resolve.
+    pub(crate) progress: u64,
+    /// Whether a contradiction is to propose all that may hide behind it, and nothing else.
+    pub(crate) wants_more: bool,
     pub(crate) is_waiting: bool,
 }
 
@@ -53,6 +65,34 @@ impl Choice {
 pub(crate) struct Choices {
     pub(crate) alloc: Global,
     each: Vec<Choice>,
+    /// How many bytes of memory all of them take, about.
+    bytes: u64,
+    /// Those that wait, by their costs, and by how far the passes came that led to them; and some that wait no more.
+    by_cost: BTreeMap<u64, usize>,
+    by_progress: BTreeMap<u64, usize>,
+    /// Whether the last one was taken by its cost.
+    was_by_cost: bool,
+}
+
+/// A number of at most so many bits.
+fn within_bits(number: u64, bits: u32) -> u64 {
+    number.min(match bits {
+        16 => 0xffff,
+        _ => 0xff_ffff,
+    })
+}
+
+/// The order of choices by their costs, of equal ones the newest first.
+fn key_by_cost(cost: usize, index: usize) -> u64 {
+    let newest = 0xff_ffff_u64.saturating_sub(within_bits(index as u64, 24));
+    (within_bits(cost as u64, 24) << 24) | newest
+}
+
+/// The order of choices by how far passes came, of equal ones by their costs, and then the newest first.
+fn key_by_progress(progress: u64, cost: usize, index: usize) -> u64 {
+    let left = 0xff_ffff_u64.saturating_sub(within_bits(progress, 24));
+    let newest = 0xff_ffff_u64.saturating_sub(within_bits(index as u64, 24));
+    (left << 40) | (within_bits(cost as u64, 16) << 24) | newest
 }
 
 impl Choices {
@@ -60,6 +100,10 @@ impl Choices {
         Choices {
             alloc,
             each: Vec::new(alloc),
+            bytes: 0,
+            by_cost: BTreeMap::new(alloc),
+            by_progress: BTreeMap::new(alloc),
+            was_by_cost: false,
         }
     }
 
@@ -70,17 +114,14 @@ impl Choices {
 
     /// How many bytes of memory all of them take, about.
     pub(crate) fn bytes(&self) -> u64 {
-        let mut bytes: u64 = 0;
-        for choice in self.each.iter() {
-            bytes = bytes.saturating_add(choice.bytes());
-        }
-        bytes
+        self.bytes
     }
 
-    /// Notes that a choice waits no more.
-    pub(crate) fn stop_waiting(&mut self, index: usize) {
-        if let Some(choice) = self.each.get_mut(index) {
-            choice.is_waiting = false;
+    /// Has a choice wait no more, and says whether it did.
+    fn stop_waiting(&mut self, index: usize) -> bool {
+        match self.each.get_mut(index) {
+            Some(choice) => std::mem::replace(&mut choice.is_waiting, false),
+            None => false,
         }
     }
 
@@ -91,22 +132,43 @@ impl Choices {
             facts: Vec::new(self.alloc),
             take: None,
             cost: 0,
+            progress: u64::MAX,
+            wants_more: false,
             is_waiting: true,
         })?;
         Ok(())
     }
 
-    /// The choice that waits and passes over the fewest proposals; of these the newest.
-    pub(crate) fn cheapest(&self) -> Option<usize> {
-        let mut cheapest: Option<usize> = None;
-        let mut cost = usize::MAX;
-        for (index, choice) in self.each.iter().enumerate() {
-            if choice.is_waiting && choice.cost <= cost {
-                cheapest = Some(index);
-                cost = choice.cost;
+    /// Adds a choice of where relative paths begin. It is tried before all that resolve contradictions.
+    pub(crate) fn add_home(&mut self, home: Fact) -> Result<(), NoMemory> {
+        let facts = vec![in self.alloc; home]?;
+        self.add(Choice {
+            parent: None,
+            facts,
+            take: None,
+            cost: 1,
+            progress: u64::MAX,
+            wants_more: false,
+            is_waiting: true,
+        })?;
+        Ok(())
+    }
+
+    /// Takes the choice to try next out of those that wait: in turn the one that passes over the fewest proposals, and
+    /// the one of a pass that came furthest.
+    pub(crate) fn take_next(&mut self) -> Option<usize> {
+        self.was_by_cost = !self.was_by_cost;
+        for _ in 0..=self.each.len() {
+            let (_, index) = if self.was_by_cost {
+                self.by_cost.pop_first()?
+            } else {
+                self.by_progress.pop_first()?
+            };
+            if self.stop_waiting(index) {
+                return Some(index);
             }
         }
-        cheapest
+        None
     }
 
     /// Begins with the facts of a choice, and of those that it adds to.
@@ -127,6 +189,7 @@ impl Choices {
 
     fn begin_choice(&self, index: usize, world: &mut World) -> Result<(), Stop> {
         if let Some(choice) = self.each.get(index) {
+            world.wants_more = choice.wants_more;
             if let Some(take) = choice.take {
                 world.takes.push(take)?;
             }
@@ -173,6 +236,8 @@ impl Choices {
             facts: learned,
             take: None,
             cost,
+            progress: 0,
+            wants_more: false,
             is_waiting: false,
         })
     }
@@ -186,7 +251,14 @@ impl Choices {
 
     fn add(&mut self, choice: Choice) -> Result<usize, NoMemory> {
         let index = self.each.len();
+        let (cost, progress, is_waiting) = (choice.cost, choice.progress, choice.is_waiting);
+        self.bytes = self.bytes.saturating_add(choice.bytes());
         self.each.push(choice)?;
+        if is_waiting {
+            self.by_cost.insert(key_by_cost(cost, index), index)?;
+            let key = key_by_progress(progress, cost, index);
+            self.by_progress.insert(key, index)?;
+        }
         Ok(index)
     }
 
@@ -197,15 +269,39 @@ impl Choices {
             Some(clash) => (clash.told, clash.found),
             None => (0, 0),
         };
-        let cost = self.add_each(base, world.proposals.as_slice())?;
-        let cost = self.guess_otherwise(base, cost, world.guesses.as_slice(), told, true)?;
-        self.guess_otherwise(base, cost, world.guesses.as_slice(), found, false)?;
+        let progress = world.progress();
+        let from = Base {
+            index: base,
+            progress,
+        };
+        let (cost, guesses) = (self.cost(base), world.guesses.as_slice());
+        if world.wants_more {
+            self.add_each(from, cost, world.proposals.as_slice())?;
+            return Ok(());
+        }
+        let cost = self.guess_otherwise(from, cost, guesses, told, true)?;
+        let cost = self.add_each(from, cost, world.proposals.as_slice())?;
+        let cost = self.guess_otherwise(from, cost, guesses, found, false)?;
+        self.add_more(from, cost)
+    }
+
+    /// Adds a choice that comes to the same contradiction, which then proposes all that may hide behind it.
+    fn add_more(&mut self, base: Base, cost: usize) -> Result<(), NoMemory> {
+        self.add(Choice {
+            parent: Some(base.index),
+            facts: Vec::new(self.alloc),
+            take: None,
+            cost,
+            progress: base.progress,
+            wants_more: true,
+            is_waiting: true,
+        })?;
         Ok(())
     }
 
     /// Adds a choice for each proposal. Returns the cost of the next one.
-    fn add_each(&mut self, base: usize, proposals: &[Fact]) -> Result<usize, NoMemory> {
-        let mut cost = self.cost(base);
+    fn add_each(&mut self, base: Base, cost: usize, proposals: &[Fact]) -> Result<usize, NoMemory> {
+        let mut cost = cost;
         for fact in proposals.iter().take(PROPOSALS) {
             self.add_fact(base, fact, cost)?;
             cost = cost.saturating_add(1);
@@ -213,14 +309,16 @@ impl Choices {
         Ok(cost)
     }
 
-    fn add_fact(&mut self, base: usize, fact: &Fact, cost: usize) -> Result<(), NoMemory> {
+    fn add_fact(&mut self, base: Base, fact: &Fact, cost: usize) -> Result<(), NoMemory> {
         let fact = fact.try_clone(self.alloc)?;
         let facts = vec![in self.alloc; fact]?;
         self.add(Choice {
-            parent: Some(base),
+            parent: Some(base.index),
             facts,
             take: None,
             cost,
+            progress: base.progress,
+            wants_more: false,
             is_waiting: true,
         })?;
         Ok(())
@@ -230,7 +328,7 @@ impl Choices {
     /// before it. Returns the cost of the next one.
     pub(crate) fn guess_otherwise(
         &mut self,
-        base: usize,
+        base: Base,
         cost: usize,
         guesses: &[Guess],
         number: u64,
@@ -253,19 +351,21 @@ impl Choices {
     }
 
     /// Adds a choice for each other reason of a refusal.
-    fn guess_each(&mut self, base: usize, cost: usize, guess: Guess) -> Result<usize, NoMemory> {
+    fn guess_each(&mut self, base: Base, cost: usize, guess: Guess) -> Result<usize, NoMemory> {
         let mut cost = cost;
         let mut bit: u32 = 1;
         for _ in 0..16 {
             if guess.others & bit != 0 {
                 self.add(Choice {
-                    parent: Some(base),
+                    parent: Some(base.index),
                     facts: Vec::new(self.alloc),
                     take: Some(Take {
                         asked: guess.asked,
                         reason: bit,
                     }),
                     cost,
+                    progress: base.progress,
+                    wants_more: false,
                     is_waiting: true,
                 })?;
                 cost = cost.saturating_add(1);

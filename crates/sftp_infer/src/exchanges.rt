@@ -9,10 +9,11 @@ use std::collections::VecDeque;
 /// The version of the protocol.
 const VERSION: u32 = 3;
 
-/// A packet, where its record ends in the transcript, and the number of the record.
+/// A packet, where it begins and its record ends in the transcript, and the number of the record.
 #[derive(Drop)]
 struct Record {
     number: u64,
+    from: usize,
     end: usize,
     packet: Packet,
 }
@@ -42,8 +43,9 @@ pub(crate) struct Exchange<'e> {
     pub(crate) asked: u64,
     pub(crate) ask_end: usize,
     pub(crate) answer: &'e Answer,
-    /// The same of the reply's.
+    /// The same of the reply's, and where its packet begins.
     pub(crate) replied: u64,
+    pub(crate) answer_from: usize,
     pub(crate) answer_end: usize,
 }
 
@@ -171,6 +173,7 @@ impl Exchanges {
                     ask_end: asked.end,
                     answer: &reply.answer,
                     replied: record.number,
+                    answer_from: record.from,
                     answer_end: record.end,
                 }),
                 _ => None,
@@ -193,18 +196,20 @@ impl Exchanges {
         match front(self.alloc, spelled, side) {
             Ok(Some((packet, length))) => {
                 self.number = self.number.saturating_add(1);
-                self.end = self.end.saturating_add(length).saturating_add(1);
-                self.take(packet)
+                let from = self.end.saturating_add(1);
+                self.end = from.saturating_add(length);
+                self.take(packet, from)
             }
             Err(WireError::NoMemory) => Err(NoMemory),
             _ => Ok(false),
         }
     }
 
-    fn take(&mut self, packet: Packet) -> Result<bool, NoMemory> {
+    fn take(&mut self, packet: Packet, from: usize) -> Result<bool, NoMemory> {
         let kind = kind_in(&packet, self.number);
         let record = Record {
             number: self.number,
+            from,
             end: self.end,
             packet,
         };

@@ -5,11 +5,71 @@ use crate::errors::{Stop, What};
 use crate::handles::Opened;
 use crate::names::{Named, Spot};
 use crate::nodes::{Held, Node, Slot};
+use crate::snapshots::{Listed, Listings, Part};
 use crate::world::World;
 use sftp_path::{is_dot, is_dot_dot, is_name};
-use sftp_wire::{NameItem, Names};
+use sftp_wire::{Answer, NameItem, Names, Packet, Side, WireError, front};
 
 impl World {
+    /// Takes all that a listing of this session gives, which is what was there when it was opened.
+    pub(crate) fn list_whole(
+        &mut self,
+        session: &[u8],
+        listings: &Listings,
+        listing: Opened,
+    ) -> Result<(), Stop> {
+        let Some(listed) = listings.get(listing.asked) else {
+            return Ok(());
+        };
+        let (replied, teller) = (self.replied, self.teller);
+        self.list_parts(session, listed, listing)?;
+        if listed.end != 0 {
+            self.say(listed.end);
+            self.list_end(listing)?;
+        }
+        self.replied = replied;
+        self.teller = teller;
+        Ok(())
+    }
+
+    fn list_parts(&mut self, session: &[u8], listed: &Listed, listing: Opened) -> Result<(), Stop> {
+        for part in listed.parts.iter() {
+            self.say(part.replied);
+            self.list_part(session, *part, listing)?;
+        }
+        Ok(())
+    }
+
+    /// Has what is told be told by the record with this number.
+    fn say(&mut self, number: u64) {
+        self.replied = number;
+        self.teller = number;
+    }
+
+    /// Takes a reply of a listing.
+    fn list_part(&mut self, session: &[u8], part: Part, listing: Opened) -> Result<(), Stop> {
+        let spelled = session.get(part.from..).unwrap_or(&[]);
+        match front(self.alloc, spelled, Side::Server) {
+            Ok(Some((packet, _))) => {
+                let done = self.list_packet(&packet, listing);
+                drop(packet);
+                done
+            }
+            Err(WireError::NoMemory) => Err(Stop::NoMemory),
+            _ => Ok(()),
+        }
+    }
+
+    fn list_packet(&mut self, packet: &Packet, listing: Opened) -> Result<(), Stop> {
+        match packet {
+            Packet::Reply(reply) => match &reply.answer {
+                Answer::Name(names) => self.list(listing, names),
+                _ => Ok(()),
+            },
+            _ => Ok(()),
+        }
+    }
+
     /// Takes the names that a listing gave.
     pub(crate) fn list(&mut self, listing: Opened, names: &Names) -> Result<(), Stop> {
         for item in names.as_slice() {

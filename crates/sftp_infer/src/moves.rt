@@ -80,6 +80,7 @@ impl World {
         let spot = found.spot();
         match found.look {
             Look::Entry(at) => {
+                self.cross(self.told(at));
                 self.set_sort(at, sort);
                 Ok(at)
             }
@@ -109,7 +110,10 @@ impl World {
         let spot = found.spot();
         match found.look {
             Look::Unknown => self.tell_nothing(spot, false),
-            Look::Nothing(_) => Ok(()),
+            Look::Nothing(told) => {
+                self.cross(told);
+                Ok(())
+            }
             Look::Entry(at) => Err(self.clash_of(at, What::Gone)),
             _ => Err(self.clash_name(spot, 0, What::Place)),
         }

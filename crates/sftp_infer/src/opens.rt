@@ -4,13 +4,20 @@ use crate::errors::Stop;
 use crate::handles::Opened;
 use crate::look::{Found, Look};
 use crate::nodes::Sort;
+use crate::snapshots::Listings;
 use crate::world::World;
 use bitflags::Flags;
 use sftp_wire::{Ask, Attrs, ByteString, OpenFlags};
 
 impl World {
     /// A reply gave a handle.
-    pub(crate) fn take_handle(&mut self, ask: &Ask, handle: &ByteString) -> Result<(), Stop> {
+    pub(crate) fn take_handle(
+        &mut self,
+        session: &[u8],
+        listings: &Listings,
+        ask: &Ask,
+        handle: &ByteString,
+    ) -> Result<(), Stop> {
         let (entry, flags, is_listing) = match ask {
             Ask::Open {
                 path,
@@ -30,6 +37,9 @@ impl World {
         let alloc = self.alloc;
         self.handles.insert(alloc, handle.as_slice(), opened)?;
         self.most_handles = self.most_handles.max(self.handles.len() as u64);
+        if is_listing && self.settings.is_strict {
+            return self.list_whole(session, listings, opened);
+        }
         Ok(())
     }
 

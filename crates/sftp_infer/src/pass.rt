@@ -7,6 +7,7 @@ use crate::files::File;
 use crate::handles::Handles;
 use crate::nodes::{Node, Rights, Slot};
 use crate::pieces::Pieces;
+use crate::snapshots::Listings;
 use crate::world::World;
 use sftp_path::NoMemory;
 use std::alloc::Global;
@@ -32,6 +33,15 @@ pub(crate) enum Passed {
     Over,
 }
 
+/// Whether two records contradict each other.
+fn is_clash(stop: Stop) -> bool {
+    match stop {
+        Stop::Clash => true,
+        Stop::Again => false,
+        Stop::NoMemory => false,
+    }
+}
+
 /// What a pass comes to that stops for this reason.
 fn passed_by(stop: Stop) -> Result<Passed, NoMemory> {
     match stop {
@@ -48,12 +58,13 @@ impl World {
     pub(crate) fn rounds(
         &mut self,
         session: &[u8],
+        listings: &Listings,
         most: u64,
         passes: u32,
     ) -> Result<Passed, NoMemory> {
         for _ in 0..ROUNDS.min(passes) {
             let mut exchanges = Exchanges::new(self.alloc, session);
-            let passed = self.pass(session, &mut exchanges, most);
+            let passed = self.pass(session, listings, &mut exchanges, most);
             drop(exchanges);
             self.passes = self.passes.saturating_add(1);
             match passed? {
@@ -70,6 +81,7 @@ impl World {
     pub(crate) fn pass(
         &mut self,
         session: &[u8],
+        listings: &Listings,
         exchanges: &mut Exchanges,
         most: u64,
     ) -> Result<Passed, NoMemory> {
@@ -77,8 +89,11 @@ impl World {
         for _ in 0..u64::MAX {
             match exchanges.next(session)? {
                 Some(exchange) => {
-                    let taken = self.take(session, exchange);
+                    let taken = self.take(session, listings, exchange);
                     if let Err(stop) = self.checked(taken) {
+                        if self.wants_more && is_clash(stop) {
+                            self.propose_more(exchange.ask)?;
+                        }
                         return passed_by(stop);
                     }
                 }
@@ -178,6 +193,7 @@ impl World {
         self.owner_by = 0;
         self.skipped = false;
         self.spare.clear();
+        self.marks.clear();
         for at in 0..self.nodes.len() {
             self.rewind_at(at)?;
         }

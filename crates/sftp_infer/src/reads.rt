@@ -172,7 +172,10 @@ impl World {
     ) -> Result<u64, Stop> {
         let one = bytes_at(shown.session, known.from, len);
         match first_difference(one, shown.first(len)) {
-            None => Ok(len),
+            None => {
+                self.cross(known.told);
+                Ok(len)
+            }
             Some((place, left, right)) => {
                 let byte = Byte {
                     offset: shown.offset.saturating_add(place as u64),

@@ -194,7 +194,10 @@ impl World {
     fn explain(&mut self, case: &Case<'_>, code: u32) -> Result<(), Stop> {
         let choice = self.choose(case, code)?;
         match choice.chosen {
-            Some(chosen) if chosen.cost == 0 => Ok(()),
+            Some(chosen) if chosen.cost == 0 => {
+                self.cross_refusal();
+                Ok(())
+            }
             Some(chosen) => {
                 let others = choice.possible & !chosen.bit;
                 if others != 0 {
@@ -222,8 +225,10 @@ impl World {
         };
         let mut bit: u32 = 1;
         for reason in case.reasons {
-            if let Some(cost) = self.cost_of_reason(old, new, *reason, code) {
-                choice.add(*reason, cost, bit, forced);
+            if case.follows || !reason.is_of_followed() {
+                if let Some(cost) = self.cost_of_reason(old, new, *reason, code) {
+                    choice.add(*reason, cost, bit, forced);
+                }
             }
             bit = bit.saturating_mul(2);
         }

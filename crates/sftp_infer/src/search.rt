@@ -1,22 +1,29 @@
 //! The search: a first look at the session, and then pass after pass, each with further facts, until one goes through.
 
 use crate::candidates::{Candidate, Excess};
-use crate::choices::Choices;
+use crate::choices::{Base, Choices};
 use crate::errors::{Clash, Stop, What};
-use crate::exchanges::Exchanges;
+use crate::exchanges::{Exchange, Exchanges};
 use crate::homes::home_of;
 use crate::pass::Passed;
 use crate::refusals::Guess;
 use crate::rows::Drawn;
 use crate::settings::Settings;
+use crate::snapshots::Listings;
 use crate::texts::TreeText;
 use crate::world::World;
 use sftp_path::NoMemory;
 use sftp_wire::{Answer, Ask};
 use std::alloc::Global;
 
-/// How many steps all passes may take for each record of the session, and for each name in a reply.
+/// How many steps all passes may take for each record of the session, and for each name in a reply; and how many
+/// besides, for any session.
 const WORK: u64 = 64;
+
+const FREE_WORK: u64 = 2_000_000;
+
+/// What is added to how far a pass came that takes refusals, too: it came further than any that does not.
+pub(crate) const HEARD: u64 = 1 << 22;
 
 /// How many bytes of memory all choices may take beside a quarter of those that the session has.
 const FREE_BYTES: u64 = 1 << 22;
@@ -50,8 +57,16 @@ pub struct Search<'a> {
     pub(crate) home: Vec<u8>,
     /// Whether a reply told the home, or the caller.
     pub(crate) is_home_told: bool,
-    /// How many requests of the session have replies, and how many names these have.
+    /// Whether the caller told it, whether a path is relative, and the places at which such a path may begin.
+    pub(crate) is_home_given: bool,
+    pub(crate) is_relative: bool,
+    pub(crate) homes: Vec<Vec<u8>>,
+    /// What listings gave.
+    pub(crate) listings: Listings,
+    /// How many requests of the session have replies, with how many names these have.
     pub(crate) requests: u64,
+    /// How many requests have replies.
+    pub(crate) replies: u64,
     pub(crate) choices: Choices,
     pub(crate) passes: u32,
     pub(crate) work: u64,
@@ -86,7 +101,12 @@ impl<'a> Search<'a> {
             settings,
             home: Vec::from_slice(alloc, home.unwrap_or(b"/"))?,
             is_home_told: home.is_some(),
+            is_home_given: home.is_some(),
+            is_relative: false,
+            homes: Vec::new(alloc),
+            listings: Listings::new(alloc),
             requests: 0,
+            replies: 0,
             choices: Choices::new(alloc),
             passes: 0,
             work: 0,
@@ -109,7 +129,11 @@ impl<'a> Search<'a> {
     /// Adds a choice with no facts, and looks at the session.
     fn prepare(&mut self) -> Result<(), NoMemory> {
         self.choices.add_first()?;
-        self.look_first()
+        self.look_first()?;
+        if self.is_home_given {
+            return Ok(());
+        }
+        self.choose_homes()
     }
 
     /// How many passes were made.
@@ -139,12 +163,12 @@ impl<'a> Search<'a> {
     /// `NoMemory` if memory runs out.
     pub fn next(&mut self) -> Result<Step<'a>, NoMemory> {
         for _ in 0..self.settings.passes {
-            let Some(choice) = self.choices.cheapest() else {
-                return Ok(Step::Nothing);
-            };
             if self.passes >= self.settings.passes || self.work_left() == 0 || self.is_full() {
                 break;
             }
+            let Some(choice) = self.choices.take_next() else {
+                return Ok(Step::Nothing);
+            };
             let step = self.try_choice(choice)?;
             if !step.is_nothing() {
                 return Ok(step);
@@ -162,12 +186,12 @@ impl<'a> Search<'a> {
 
     fn work_left(&self) -> u64 {
         let records = self.requests.saturating_mul(2).saturating_add(16);
-        records.saturating_mul(WORK).saturating_sub(self.work)
+        let most = records.saturating_mul(WORK).saturating_add(FREE_WORK);
+        most.saturating_sub(self.work)
     }
 
     /// Goes through the session with a choice.
     fn try_choice(&mut self, choice: usize) -> Result<Step<'a>, NoMemory> {
-        self.choices.stop_waiting(choice);
         let mut world = World::new(
             self.alloc,
             self.session.len() as u64,
@@ -194,7 +218,7 @@ impl<'a> Search<'a> {
             Err(_) => return Ok(Passed::Stuck),
         }
         let left = self.settings.passes.saturating_sub(self.passes);
-        world.rounds(self.session, self.work_left(), left)
+        world.rounds(self.session, &self.listings, self.work_left(), left)
     }
 
     /// Takes what a choice comes to.
@@ -234,10 +258,7 @@ impl<'a> Search<'a> {
 
     /// Keeps the contradiction of a pass if it comes later in the session than those before.
     fn keep_best(&mut self, world: &mut World) -> Result<(), NoMemory> {
-        let found = match &world.clash {
-            Some(clash) => clash.found,
-            None => 0,
-        };
+        let found = world.progress();
         if found < self.furthest || self.clash.is_some() && found == self.furthest {
             return Ok(());
         }
@@ -247,7 +268,7 @@ impl<'a> Search<'a> {
         Ok(())
     }
 
-    /// Keeps a contradiction, of which the second record has this number.
+    /// Keeps a contradiction of a pass that came so far.
     fn set_clash(&mut self, found: u64, clash: Option<Clash>) {
         self.furthest = found;
         drop(std::mem::replace(&mut self.clash, clash));
@@ -260,7 +281,8 @@ impl<'a> Search<'a> {
     ///
     /// `NoMemory` if memory runs out.
     pub fn refuse(&mut self, found: u64) -> Result<(), NoMemory> {
-        if found > self.furthest {
+        let reached = found.saturating_add(HEARD);
+        if reached > self.furthest {
             let clash = Clash {
                 told: 0,
                 found,
@@ -268,7 +290,7 @@ impl<'a> Search<'a> {
                 what: What::Refused(None),
                 texts: None,
             };
-            self.set_clash(found, Some(clash));
+            self.set_clash(reached, Some(clash));
         }
         self.guess_before(found)
     }
@@ -278,9 +300,13 @@ impl<'a> Search<'a> {
         let guesses = std::mem::replace(&mut self.guesses, Vec::new(self.alloc));
         let last = self.last;
         let cost = self.choices.cost(last);
+        let base = Base {
+            index: last,
+            progress: found.saturating_add(HEARD),
+        };
         let next = self
             .choices
-            .guess_otherwise(last, cost, guesses.as_slice(), found, false);
+            .guess_otherwise(base, cost, guesses.as_slice(), found, false);
         drop(guesses);
         match next {
             Ok(_) => Ok(()),
@@ -310,16 +336,20 @@ impl<'a> Search<'a> {
         let session = self.session;
         for _ in 0..u64::MAX {
             match exchanges.next(session)? {
-                Some(exchange) => self.look_at(exchange.ask, exchange.answer)?,
+                Some(exchange) => self.look_at(exchange)?,
                 None => return Ok(()),
             }
         }
         Ok(())
     }
 
-    fn look_at(&mut self, ask: &Ask, answer: &Answer) -> Result<(), NoMemory> {
+    fn look_at(&mut self, exchange: Exchange<'_>) -> Result<(), NoMemory> {
+        let (ask, answer) = (exchange.ask, exchange.answer);
         let steps = count_of_names(answer).saturating_add(1);
         self.requests = self.requests.saturating_add(steps);
+        self.replies = self.replies.saturating_add(1);
+        self.listings.note(exchange)?;
+        self.look_for_homes(exchange)?;
         if self.is_home_told {
             return Ok(());
         }

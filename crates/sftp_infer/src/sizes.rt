@@ -19,6 +19,9 @@ impl World {
                 return self.refuse_size(at, least, most, size);
             }
         }
+        if least == most {
+            self.cross(self.entry(at).file.size_told());
+        }
         self.tell_size_of_old(at, size);
         Ok(())
     }

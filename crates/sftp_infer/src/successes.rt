@@ -8,6 +8,7 @@ use crate::nodes::{Node, Sort};
 use crate::pieces::Piece;
 use crate::reads::Shown;
 use crate::reasons::has_loose_end;
+use crate::snapshots::Listings;
 use crate::world::World;
 use sftp_wire::{Answer, Ask, Attrs, ByteString, Names, status};
 
@@ -55,8 +56,13 @@ fn blur_opened(nodes: &mut Vec<Node>, opened: Opened) {
 }
 
 impl World {
-    /// Takes an exchange of this session.
-    pub(crate) fn take(&mut self, session: &[u8], exchange: Exchange<'_>) -> Result<(), Stop> {
+    /// Takes an exchange of this session, of which these are the listings.
+    pub(crate) fn take(
+        &mut self,
+        session: &[u8],
+        listings: &Listings,
+        exchange: Exchange<'_>,
+    ) -> Result<(), Stop> {
         self.asked = exchange.asked;
         self.replied = exchange.replied;
         self.teller = match exchange.answer {
@@ -67,7 +73,7 @@ impl World {
         self.follows = follows(exchange.ask);
         match exchange.answer {
             Answer::Status { code, .. } => self.take_status(exchange, *code),
-            Answer::Handle(handle) => self.take_handle(exchange.ask, handle),
+            Answer::Handle(handle) => self.take_handle(session, listings, exchange.ask, handle),
             Answer::Data(bytes) => {
                 let (end, told) = (exchange.answer_end, exchange.replied);
                 let piece = piece_before(end, bytes, told);
@@ -106,7 +112,9 @@ impl World {
                 }
             }
             Ask::Readdir { handle } if code == status::EOF => match self.handle(handle) {
-                Some(opened) if opened.is_listing => self.list_end(opened),
+                Some(opened) if opened.is_listing && !self.settings.is_strict => {
+                    self.list_end(opened)
+                }
                 _ => Ok(()),
             },
             ask => self.refuse(ask, code),
@@ -262,7 +270,9 @@ impl World {
     fn take_names(&mut self, ask: &Ask, names: &Names) -> Result<(), Stop> {
         match ask {
             Ask::Readdir { handle } => match self.handle(handle) {
-                Some(opened) if opened.is_listing => self.list(opened, names),
+                Some(opened) if opened.is_listing && !self.settings.is_strict => {
+                    self.list(opened, names)
+                }
                 _ => Ok(()),
             },
             Ask::Readlink { path } => match names.as_slice().first() {
@@ -288,7 +298,10 @@ impl World {
             None => None,
         };
         match is_known {
-            Some(true) => Ok(()),
+            Some(true) => {
+                self.cross(self.told(at));
+                Ok(())
+            }
             Some(false) => self.clash_target(at, target),
             None => self.set_target(at, target),
         }

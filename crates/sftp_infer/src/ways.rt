@@ -40,6 +40,22 @@ fn without_tail<'t>(one: &'t [u8], other: &'t [u8]) -> Option<(&'t [u8], &'t [u8
 }
 
 impl World {
+    /// Proposes for each name in which two places end that what is above it in the first one is a link to what is above
+    /// it in the other one.
+    pub(crate) fn propose_links(&mut self, one: &[u8], other: &[u8]) {
+        let (mut one, mut other) = (one, other);
+        for _ in 0..DEPTH_LIMIT {
+            match (cut_last(one), cut_last(other)) {
+                (Some((left, name)), Some((right, like))) if name == like => {
+                    one = left;
+                    other = right;
+                    self.propose_to(one, other);
+                }
+                _ => return,
+            }
+        }
+    }
+
     /// Proposes that a directory above one of two files is a link to the one above the other, if both paths end in the
     /// same names.
     pub(crate) fn propose_way(&mut self, at: usize, other: usize) {
@@ -99,42 +115,12 @@ impl World {
 
     /// Proposes that an entry is a link to another one, if a target of that one has this length. Says whether one has.
     fn propose_end(&mut self, at: usize, other: usize, length: u64) -> bool {
-        match self.end_of_length(at, other, length) {
+        match self.target_to(at, other, Some(length)) {
             Some(target) => {
                 self.propose_of(at, Says::Link(target));
                 true
             }
             None => false,
-        }
-    }
-
-    /// The path of an entry of the start, or what it has behind the directory of a link, if it has this length.
-    fn end_of_length(&mut self, at: usize, other: usize, length: u64) -> Option<Vec<u8>> {
-        let text = self.old_text(other)?;
-        if text.len() as u64 == length {
-            return Some(text);
-        }
-        let end = self.end_beside(at, text.as_slice(), length);
-        drop(text);
-        end
-    }
-
-    /// What the text of a place has behind the directory of a link, if it has this length; `None` if memory runs out,
-    /// which is noted.
-    fn end_beside(&mut self, at: usize, text: &[u8], length: u64) -> Option<Vec<u8>> {
-        match self.place(self.entry(at).old_seat.parent, &[], true) {
-            Ok(above) => {
-                let end = beside(text, above.as_slice());
-                drop(above);
-                match end {
-                    Some(end) if end.len() as u64 == length => self.copy(end),
-                    _ => None,
-                }
-            }
-            Err(_) => {
-                self.lacks_memory = true;
-                None
-            }
         }
     }
 

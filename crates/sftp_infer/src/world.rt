@@ -4,9 +4,11 @@ use crate::choices::Take;
 use crate::errors::{Clash, Stop};
 use crate::facts::{Fact, Says};
 use crate::handles::Handles;
+use crate::marks::Marks;
 use crate::names::{Seat, Spot};
 use crate::nodes::{Held, Node, Slot, Sort};
 use crate::refusals::Guess;
+use crate::search::HEARD;
 use crate::settings::Settings;
 use sftp_path::NoMemory;
 use std::alloc::Global;
@@ -58,8 +60,8 @@ pub(crate) struct World {
     pub(crate) passes: u32,
     /// The entry that showed who owns what is made.
     pub(crate) owner_by: usize,
-    /// Whether a path was relative.
-    pub(crate) needs_home: bool,
+    /// Whether a contradiction proposes all that may hide behind it, and nothing else.
+    pub(crate) wants_more: bool,
     /// The contradiction that ends the pass, and what might resolve it.
     pub(crate) clash: Option<Clash>,
     pub(crate) proposals: Vec<Fact>,
@@ -70,6 +72,8 @@ pub(crate) struct World {
     pub(crate) teller: u64,
     /// Whether memory ran out for a proposal: the exchange at hand ends the pass.
     pub(crate) lacks_memory: bool,
+    /// The replies that say what another record says, too.
+    pub(crate) marks: Marks,
     /// The steps of the pass, and how many bytes of memory its facts take, about.
     pub(crate) work: u64,
     pub(crate) taken: u64,
@@ -113,13 +117,14 @@ impl World {
             spare: Vec::new(alloc),
             passes: 0,
             owner_by: 0,
-            needs_home: false,
+            wants_more: false,
             clash: None,
             proposals: Vec::new(alloc),
             asked: 0,
             replied: 0,
             teller: 0,
             lacks_memory: false,
+            marks: Marks::new(alloc),
             work: 0,
             taken: 0,
         })
@@ -154,6 +159,12 @@ impl World {
     pub(crate) fn take_pieces(&mut self, count: u64) {
         let bytes = count.saturating_mul(PIECE_BYTES);
         self.taken = self.taken.saturating_add(bytes);
+    }
+
+    /// How far the pass came: the number of the request at hand, and more if refusals are taken.
+    pub(crate) fn progress(&self) -> u64 {
+        let heard = if self.hears { HEARD } else { 0 };
+        self.asked.saturating_add(heard)
     }
 
     /// The entry with this number.

@@ -67,6 +67,15 @@ pub(crate) fn put_assumed<E: Write>(candidate: &Candidate<'_>, errors: &mut E) {
     }
 }
 
+/// Writes how many replies of the session others bear out. The tree has what the rest alone tell.
+pub(crate) fn put_checked<E: Write>(candidate: &Candidate<'_>, errors: &mut E) {
+    let (checked, replies) = (candidate.checked, candidate.replies);
+    let _ = write_flushed(
+        errors,
+        format_args!("{checked} of {replies} replies were checked by others\n"),
+    );
+}
+
 /// Says that the records of a session do not pair off, with whatever tree.
 pub(crate) fn put_refusal<'a, O: Write>(
     refusal: Refusal,
@@ -233,7 +242,7 @@ impl fmt::Display for Otherwise<'_> {
 /// The words for a reply that no pass explains. Where an earlier record told something, it is a refusal.
 fn unexplained(told: u64) -> &'static str {
     match told {
-        0 => "a reply that nothing explains",
+        0 => "a reply that the search does not explain",
         _ => "a refusal for which that is no reason",
     }
 }
@@ -249,22 +258,23 @@ fn other_words(what: What) -> &'static str {
     }
 }
 
-/// Writes both records of the contradiction that came last, what each told, and how many passes were tried. If memory
-/// runs out, it says so, and no more.
+/// Writes both records at which the search ended, what each told, and how many passes were tried. If memory runs out,
+/// it says so, and no more.
 pub(crate) fn put_clash<E: Write>(
     alloc: Global,
     session: &[u8],
     search: &Search<'_>,
+    is_sure: bool,
     errors: &mut E,
 ) {
     match search.clash() {
         Some(clash) => {
             if let Some(first) = put_both(alloc, session, clash, errors) {
-                put_end(search, errors);
+                put_end(search, is_sure, errors);
                 put_hint(first, clash.told.max(clash.found), errors);
             }
         }
-        None => put_end(search, errors),
+        None => put_end(search, is_sure, errors),
     }
 }
 
@@ -300,13 +310,15 @@ fn put_found<E: Write>(
     Some(first)
 }
 
-/// Writes how many passes were tried, and what that means.
-fn put_end<E: Write>(search: &Search<'_>, errors: &mut E) {
+/// Writes how many passes were tried, and what that means; `is_sure` says whether two records contradict each other.
+fn put_end<E: Write>(search: &Search<'_>, is_sure: bool, errors: &mut E) {
     let passes = search.passes();
-    let _ = write_flushed(
-        errors,
-        format_args!("tried: {passes} passes\nThis is no proof that there is no tree.\n"),
-    );
+    let meaning = if is_sure {
+        "No tree gives both replies."
+    } else {
+        "This is no proof that there is no tree."
+    };
+    let _ = write_flushed(errors, format_args!("tried: {passes} passes\n{meaning}\n"));
 }
 
 /// Says how to look closer at these records, and those between them.

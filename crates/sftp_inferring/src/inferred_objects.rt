@@ -4,6 +4,7 @@ ghost use Rattle.sftp_files.specs.declared.messages.Ending.TheVariants as ending
 ghost use Rattle.sftp_files.specs.Failures.{IsUnwritten};
 
 use sftp_files::{Ending, Failure};
+use sftp_infer::Candidate;
 use sftp_json::JsonLines;
 use sftp_verdicts::{object_of, parts_of_line, print_object, whole_lines};
 use std::io::Write;
@@ -26,11 +27,29 @@ pub(crate) fn print_untold<'a, O: Write>(
     print_object(json, Ending::Refused)
 }
 
+/// Prints the object of a session whose search came to this record, and could not fit it to an earlier one, as the last
+/// step of a run.
+pub(crate) fn print_unfit<'a, O: Write>(
+    found: u64,
+    told: u64,
+    output: &mut O,
+) -> Result<Ending, Failure<'a>>
+    ensures ok { IfOk result (λ ending. ending ≡ endings.Refused) }
+    ensures err { IfErr result IsUnwritten }
+{
+    let mut json = object_of("no-tree", output);
+    json.number("record", found);
+    json.word("kind", "Unfit");
+    json.number("contradicts", 0);
+    json.number("beside", told);
+    print_object(json, Ending::Refused)
+}
+
 /// Prints the object of a session for which a tree was found, as the last step of a run. `assumed` has a line for each
 /// thing that the tree assumes beyond what replies tell.
 pub(crate) fn print_inferred<'a, O: Write>(
     requests: u64,
-    entries: u64,
+    candidate: &Candidate<'_>,
     assumed: &[u8],
     output: &mut O,
 ) -> Result<Ending, Failure<'a>>
@@ -39,7 +58,8 @@ pub(crate) fn print_inferred<'a, O: Write>(
 {
     let mut json = object_of("accepted", output);
     json.number("requests", requests);
-    json.number("entries", entries);
+    json.number("entries", candidate.entries);
+    json.number("checked", candidate.checked);
     json.open_list("assumed");
     put_assumptions(assumed, &mut json);
     json.close_list();

@@ -10,10 +10,10 @@ ghost use Rattle.sftp_inferring.specs.Inferences.{AreWritten, IsInferred, with_u
 
 use crate::inferences::{Found, Inferred, Judging, find};
 use crate::inferred_lines::{
-    put_assumed, put_clash, put_excess, put_exchange, put_refusal, put_spent, put_strictness,
-    put_way,
+    put_assumed, put_checked, put_clash, put_excess, put_exchange, put_refusal, put_spent,
+    put_strictness, put_way,
 };
-use crate::inferred_objects::{print_inferred, print_untold};
+use crate::inferred_objects::{print_inferred, print_unfit, print_untold};
 use sftp_audit::Refusal;
 use sftp_commands::is_lost;
 use sftp_files::{Ending, Failure, System, print, read_at_most};
@@ -33,7 +33,7 @@ const START_LOST: &str = "'--out' names the file of the tree at the start";
 const WRONG_HOME: &str = "'--home' is no absolute path without '.', '..' and needless '/'";
 
 /// The passes of a search, without an option.
-const PASSES: u32 = 300;
+const PASSES: u32 = 3_000;
 
 /// The most bytes that the files of a session may have in all beside those of the transcript, without an option.
 const FILES: u64 = 1 << 30;
@@ -346,28 +346,53 @@ fn exceed<'a, O: Write, E: Write>(
     let has_memory = options.memory.is_some();
     put_excess(excess, has_memory, errors);
     match excess {
-        Excess::File(_) => print_none(options.is_json, 0, 0, output),
-        Excess::Entries => print_none(options.is_json, 0, 0, output),
+        Excess::File(_) => print_none(options.is_json, Untold::Nothing, output),
+        Excess::Entries => print_none(options.is_json, Untold::Nothing, output),
         Excess::Files(_) if has_memory => Err(Failure::OverLimit(options.transcript)),
         Excess::Files(_) => Err(Failure::OutOfMemory),
         Excess::Paths(_) => Err(Failure::OutOfMemory),
     }
 }
 
-/// Says that there is no tree, since one record contradicts another one; 0 stands for none.
+/// How far a search came that found no tree.
+#[derive(Clone, Copy)]
+enum Untold {
+    /// Nobody knows.
+    Nothing,
+    /// To a record that it could not explain.
+    Unexplained(u64),
+    /// To a record that it could not fit to an earlier one.
+    Unfit(u64, u64),
+    /// To a record that contradicts an earlier one, so that there is no tree.
+    Contradiction(u64, u64),
+}
+
+/// Says that no tree was found, and how far the search came.
 fn print_none<'a, O: Write>(
     is_json: bool,
-    told: u64,
-    found: u64,
+    why: Untold,
     output: &mut O,
 ) -> Result<Ending, Failure<'a>>
     ensures status { IsAuditStatus result }
     ensures refused { IfOk result (λ ending. ending ≡ endings.Refused) }
 {
     if is_json {
-        return print_untold(kind_of(told, found), found, told, output);
+        return print_why(why, output);
     }
-    print_contradiction(told, found, output)
+    print_line(why, output)
+}
+
+/// Prints the object of a session for which no tree was found.
+fn print_why<'a, O: Write>(why: Untold, output: &mut O) -> Result<Ending, Failure<'a>>
+    ensures status { IsAuditStatus result }
+    ensures refused { IfOk result (λ ending. ending ≡ endings.Refused) }
+{
+    match why {
+        Untold::Nothing => print_untold("NotFound", 0, 0, output),
+        Untold::Unexplained(found) => print_untold("Unexplained", found, 0, output),
+        Untold::Unfit(found, told) => print_unfit(found, told, output),
+        Untold::Contradiction(found, told) => print_untold("Contradiction", found, told, output),
+    }
 }
 
 /// Writes the files of an accepted session, and says so.
@@ -387,6 +412,9 @@ fn accept<'a, T: Stores<'a>, K: Stores<'a>, R: System, O: Write, E: Write>(
 {
     write_files(rt, options, inferred, tree, out)?;
     put_assumed(&inferred.candidate, errors);
+    if options.explains {
+        put_checked(&inferred.candidate, errors);
+    }
     if options.is_json {
         return print_object(rt.alloc(), inferred, output);
     }
@@ -450,7 +478,7 @@ fn print_object<'a, O: Write>(
     put_assumed(&inferred.candidate, &mut lines);
     let printed = print_inferred(
         inferred.ended.requests,
-        inferred.candidate.entries,
+        &inferred.candidate,
         lines.as_slice(),
         output,
     );
@@ -458,7 +486,7 @@ fn print_object<'a, O: Write>(
     printed
 }
 
-/// Says that no tree was found, and which records contradict each other.
+/// Says that no tree was found, and how far the search came.
 fn refuse<'a, B: Stores<'a>, O: Write, E: Write>(
     alloc: Global,
     options: &InferOptions<'a>,
@@ -475,27 +503,35 @@ fn refuse<'a, B: Stores<'a>, O: Write, E: Write>(
     if search.is_spent() {
         put_spent(errors);
     }
-    let (told, found) = match search.clash() {
-        Some(clash) => (clash.told, clash.found),
-        None => (0, 0),
-    };
-    let printed = print_none(options.is_json, told, found, output);
+    let is_sure = search.is_sure()?;
+    let printed = print_none(options.is_json, untold_by(search, is_sure), output);
     if !options.is_json && printed.is_ok() {
-        put_reasons(alloc, options, session, search, errors);
+        put_reasons(alloc, options, session, search, is_sure, errors);
     }
     printed
 }
 
-/// Shows the records that contradict each other, if that is asked for, and says if a profile may help.
+/// How far a search came; `is_sure` says whether the records at which it ended contradict each other.
+fn untold_by(search: &Search<'_>, is_sure: bool) -> Untold {
+    match search.clash() {
+        Some(clash) if is_sure => Untold::Contradiction(clash.found, clash.told),
+        Some(clash) if clash.told > 0 => Untold::Unfit(clash.found, clash.told),
+        Some(clash) if clash.found > 0 => Untold::Unexplained(clash.found),
+        _ => Untold::Nothing,
+    }
+}
+
+/// Shows the records at which a search ended, if that is asked for, and says if a profile may help.
 fn put_reasons<E: Write>(
     alloc: Global,
     options: &InferOptions<'_>,
     session: &[u8],
     search: &Search<'_>,
+    is_sure: bool,
     errors: &mut E,
 ) {
     if options.explains {
-        put_clash(alloc, session, search, errors);
+        put_clash(alloc, session, search, is_sure, errors);
     }
     if options.profile.is_none() && is_unexplained(search) {
         put_strictness(errors);
@@ -524,37 +560,29 @@ fn write_best<'a, B: Stores<'a>>(
     }
 }
 
-/// Why there is no tree, as a word: by the records that contradict each other; 0 stands for none.
-fn kind_of(told: u64, found: u64) -> &'static str {
-    match (told, found) {
-        (0, 0) => "NotFound",
-        (0, _) => "Unexplained",
-        _ => "Contradiction",
-    }
-}
-
-/// The line for two records that contradict each other; 0 stands for none.
-fn print_contradiction<'a, O: Write>(
-    told: u64,
-    found: u64,
-    output: &mut O,
-) -> Result<Ending, Failure<'a>>
+/// Prints the line of a session for which no tree was found.
+fn print_line<'a, O: Write>(why: Untold, output: &mut O) -> Result<Ending, Failure<'a>>
     ensures status { IsAuditStatus result }
     ensures refused { IfOk result (λ ending. ending ≡ endings.Refused) }
 {
-    if told == 0 && found == 0 {
-        return print(output, "no tree found\n", Ending::Refused);
-    }
-    if told == 0 {
-        return print(
+    match why {
+        Untold::Nothing => print(output, "no tree found\n", Ending::Refused),
+        Untold::Unexplained(found) => print(
             output,
-            format_args!("no tree found: nothing explains record {found}\n"),
+            format_args!("no tree found: the search came to record {found}\n"),
             Ending::Refused,
-        );
+        ),
+        Untold::Unfit(found, told) => print(
+            output,
+            format_args!(
+                "no tree found: the search came to record {found}, and could not fit it to record {told}\n"
+            ),
+            Ending::Refused,
+        ),
+        Untold::Contradiction(found, told) => print(
+            output,
+            format_args!("no tree found: record {found} contradicts record {told}\n"),
+            Ending::Refused,
+        ),
     }
-    print(
-        output,
-        format_args!("no tree found: record {found} contradicts record {told}\n"),
-        Ending::Refused,
-    )
 }

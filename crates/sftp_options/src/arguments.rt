@@ -210,7 +210,7 @@ pub(crate) const INFER: &[Argument] = &[
     (
         "passes",
         Form::Number("N"),
-        "The most passes over the session, 300 by default",
+        "The most passes over the session, 3000 by default",
     ),
     (
         "explain",
