@@ -6,8 +6,8 @@ from sftpv3.probe import features, groups, hints, known, limits, options, report
 from sftpv3.probe.sessions import NotStarted, Stopped
 from sftpv3.system import program
 
-# Seconds for all, and the most to shrink one kind, and to see which options would accept it.
-SECONDS, SHARE, HINTS = 55, 15, 2
+# Seconds for all, and the most to shrink one kind, to see which options would accept it, and what it is like.
+SECONDS, SHARE, HINTS, LIKENESS = 55, 15, 2, 10
 
 # The seeds, of which the first ones have small scenes alone, and the requests of these.
 SEEDS, SMALL, REQUESTS = "1-30", 15, 40
@@ -77,6 +77,7 @@ class Run(runs.Run):
         self.progress.clear()
         with suppress(Stopped):
             hints.put_hints([group], self.auditor, self.tree, self.folder, limits.Until(self.playing, HINTS))
+        self.liken([group], LIKENESS)
         try:
             self.keep(group)
         except OSError as error:

@@ -20,6 +20,10 @@ from sftpv3.walk import bounds
 MOST_PLAYED, MOST_ENDED = 12, 3
 
 
+# The most seconds in which all differences are compared with models of faults.
+LIKENESS = 60
+
+
 @dataclass
 class Outcome:
     """What came of a seed."""
@@ -318,6 +322,15 @@ class Run:
         with suppress(sessions.Stopped):
             hints.put_hints(self.groups.all(), self.auditor, self.tree, self.folder, until)
 
+    def liken(self, found, seconds):
+        """Says of these differences what models of faults they are like, as far as there is time. Without --budget
+        nobody waits for that."""
+        # the models are many, and most runs need none
+        from sftpv3.probe import likeness
+        search = likeness.Search(self.program, self.folder, limits.Until(self.until, seconds), self.pool.jobs,
+                                 self.given.symlink == "draft")
+        likeness.put_likeness(found, search, self.tree)
+
     def keep(self, group):
         """Keeps the session of a group."""
         shown = group.shortest or shrinking.Shown(group.steps, self.tree, group.first)
@@ -374,6 +387,8 @@ class Run:
             self.progress.clear()
             self.shrink()
             self.hint()
+            if self.groups.by_key and self.given.budget:
+                self.liken(self.groups.all(), LIKENESS)
         except Exception as error:  # noqa: BLE001 (what was found is reported first, whatever failed)
             trouble = error
             self.progress.clear()

@@ -1,0 +1,258 @@
+"""What a difference looks like: the models of faults (sftpv3.faults) under which a sound server gives the replies that
+the server gave.
+
+The shortest session of a difference is played on `sftpv3 serve` behind each model that changes something in it, with
+the numbers that its sentence has searched for. If all replies that were judged are alike under several models, the
+session that the difference came from is played behind these, too, and decides which is named first, and which numbers
+are left.
+"""
+from concurrent import futures
+from contextlib import suppress
+from dataclasses import dataclass, field
+from typing import List, Optional
+
+from sftpv3 import codec
+from sftpv3.codec import trees
+from sftpv3.faults import comparing, numbers, replaying
+from sftpv3.faults.models import MODELS
+from sftpv3.probe import groups, limits, set_times, shrinking
+from sftpv3.system import files
+
+# How many models, and how many numbers of one, are played with the first session of a difference.
+MOST_FIT, MOST_NUMBERS = 8, 12
+
+# The verdicts on replies that can be compared.
+KINDS = {"NotAllowed", "NotModelled", "Times"}
+
+# What `serve` needs to show times.
+TIMES = ("--times",)
+
+
+@dataclass
+class Fit:
+    """A model under which all replies are alike: the numbers that fit, of those that were tried, or None where it has
+    no number; and how many replies of the first session are alike with it."""
+
+    name: str
+    fitting: Optional[List[int]] = None
+    tried: Optional[List[int]] = None
+    whole: int = -1
+
+    @property
+    def model(self):
+        return MODELS[self.name]
+
+    def number(self):
+        """One of the numbers that fit: its own, if that does."""
+        if self.fitting is None:
+            return None
+        own = getattr(self.model, numbers.name_of(self.model))
+        return own if own in self.fitting else self.fitting[0]
+
+    def sentence(self):
+        text = numbers.sentence(self.model, self.fitting and numbers.spread(self.fitting, self.tried))
+        first = text.split()[0]
+        return (text if first.upper() == first and len(first) > 1 else text[0].lower() + text[1:]).rstrip(".")
+
+
+@dataclass
+class Likeness:
+    """What fits a difference: the models, those first that suit its first session best; of how many models; and how
+    many replies were compared."""
+
+    fits: List[Fit] = field(default_factory=list)
+    models: int = 0
+    replies: int = 0
+
+    def lines(self):
+        """What is said of it: at most three models."""
+        if not self.fits:
+            return [f"as if: no model of a fault fits ({self.replies} replies; none of {self.models} models)"]
+        many = f"{len(self.fits)} of {self.models} models fit{'s' * (len(self.fits) == 1)}"
+        first = f"as if: {self.fits[0].sentence()} ({self.replies} of {self.replies} replies alike; {many})"
+        return [first] + [f"or: {fit.sentence()}" for fit in self.fits[1:3]]
+
+
+class Unlike(Exception):
+    """A session that cannot be compared."""
+
+
+class Played:
+    """A session that a server had, and how `serve` plays it. `judged` are the differences in it, and `unjudged` the ids
+    of requests whose replies were not judged."""
+
+    def __init__(self, program, tree_file, session, judged, unjudged, link_first):
+        end = session.again
+        records = session.records[:end]
+        self.script = replaying.Script(records, session.cut, link_first)
+        self.records = records
+        has_times = any(one.verdict.kind == "Times" for one in judged)
+        command = [program, "serve", "--tree", tree_file, *(TIMES if has_times else ())]
+        self.replay = replaying.Replay(command, self.script)
+        self.sound = self.replay.play()
+        refused = {one.number: comparing.Refused(fields_of(one)) for one in judged if one.verdict.kind != "Times"}
+        theirs = {codec.id_of(packet): packet for side, packet in reversed(records[2:])
+                  if side == codec.SERVER and len(packet) >= 9}
+        self.comparison = comparing.Comparison(self.script, theirs, self.sound.replies, refused, unjudged)
+        self.times = of_times(records) if has_times else None
+        self.replies = len(self.comparison.numbers)
+
+    def alike(self, model):
+        """How many replies are alike behind a model."""
+        try:
+            given = self.replay.play(model)
+        except replaying.NoReply:
+            return -1
+        count = self.comparison.alike(given.replies)
+        if self.times is not None:
+            # what shows other times is alike only if the model shows such times, too
+            count -= len(self.times ^ of_times(self.played_records(given)))
+        return count
+
+    def played_records(self, given):
+        """The records of a play."""
+        found = list(self.records[:2])
+        for one in self.script.rounds:
+            found += [(codec.CLIENT, given.sent[codec.id_of(packet)]) for packet in one.asked]
+            found += [(codec.SERVER, given.replies[number]) for number in one.answered if number in given.replies]
+        return found
+
+
+def of_times(records):
+    """The ids of the requests whose replies show other times than were set, each with what is said of it."""
+    return {(one.asked.number, one.found) for one in set_times.findings(records)}
+
+
+def fields_of(difference):
+    """The attributes that an audit refused, or None if that is not what it says."""
+    lines = difference.verdict.lines
+    expected, found = lines.get("expected", ""), lines.get("found", "")
+    if " has " in found and ", not " in found:
+        found, expected = found.split(" has ", 1)[1].split(", not ", 1)
+    elif not (expected.startswith("ATTRS with") and found.startswith("ATTRS with")):
+        return None
+    differ = frozenset(name for label, name in groups.FIELDS
+                       if groups.number(expected, label) != groups.number(found, label))
+    return differ | {"kind"} if "permissions" in differ else differ or None
+
+
+class Search:
+    """Looks for models of one difference."""
+
+    def __init__(self, program, folder, until, jobs, link_first, models=None):
+        self.program, self.folder, self.until, self.jobs = program, folder, until, jobs
+        self.link_first, self.models = link_first, models or distinct()
+
+    def likeness(self, shown):
+        """What fits a session that shows a difference, or None where it cannot be compared or no time is left."""
+        difference = shown.difference
+        if difference.verdict.kind not in KINDS or difference.is_again or self.until.is_set():
+            return None
+        try:
+            played = self.played(shown)
+        except replaying.NoReply:
+            return None
+        found = Likeness([], len(self.models), played.replies)
+        with futures.ThreadPoolExecutor(self.jobs) as pool:
+            fits = list(pool.map(lambda name: self.fit(played, name), self.models))
+        if self.until.is_set():
+            return None
+        found.fits = [fit for fit in fits if fit]
+        return found
+
+    def played(self, shown):
+        difference = shown.difference
+        tree_file = f"{self.folder}/alike.tree"
+        files.write(tree_file, difference.session.start or trees.put(shown.tree))
+        return Played(self.program, tree_file, difference.session, shown.differences or [difference],
+                      shown.unjudged, self.link_first)
+
+    def fit(self, played, name):
+        """How a model fits, or None."""
+        if self.until.is_set():
+            return None
+        with suppress(ArithmeticError):
+            return self.fit_with_number(played, name) if numbers.name_of(MODELS[name]) else self.fit_as_it_is(
+                played, name)
+        return None
+
+    @staticmethod
+    def fit_as_it_is(played, name):
+        with suppress(replaying.NeedsServer):
+            if replaying.digest(played.script, played.sound, MODELS[name]()) is None:
+                return None
+        return Fit(name) if played.alike(MODELS[name]()) == played.replies else None
+
+    def fit_with_number(self, played, name):
+        """Tries each number that may differ from the others in this session."""
+        model = MODELS[name]
+        own, seen = getattr(model, numbers.name_of(model)), set()
+        with suppress(replaying.NeedsServer):
+            replaying.digest(played.script, played.sound, numbers.with_number(model, numbers.Noted(own, seen))())
+        tried, alike, fitting = numbers.worth(seen, own), {None: False}, []
+        for number in tried:
+            if self.until.is_set():
+                return None
+            chosen = numbers.with_number(model, number)
+            with suppress(ArithmeticError):
+                made = replaying.digest(played.script, played.sound, chosen())
+                if made not in alike:
+                    alike[made] = played.alike(chosen()) == played.replies
+                fitting += [number] if alike[made] else []
+        return Fit(name, fitting, tried) if fitting else None
+
+    def order(self, found, shown):
+        """Puts those first that suit another session best, and takes those numbers that do."""
+        if not found or not found.fits or shown.difference.session.again is not None or self.until.is_set():
+            return
+        try:
+            played = self.played(shown)
+        except replaying.NoReply:
+            return
+        with futures.ThreadPoolExecutor(self.jobs) as pool:
+            list(pool.map(lambda fit: self.narrow(played, fit), found.fits[:MOST_FIT]))
+        found.fits.sort(key=lambda fit: -fit.whole)
+
+    def narrow(self, played, fit):
+        """Plays a session behind a model that fits another one, with some of its numbers."""
+        if self.until.is_set():
+            return
+        if fit.fitting is None:
+            fit.whole = played.alike(fit.model())
+            return
+        some = chosen(fit.fitting, fit.number())
+        alike = {}
+        for number in some:
+            if self.until.is_set():
+                return
+            alike[number] = played.alike(numbers.with_number(fit.model, number)())
+        fit.whole = max(alike.values())
+        best = [number for number in some if alike[number] == fit.whole]
+        fit.fitting = [number for number in fit.fitting if min(best) <= number <= max(best)]
+
+
+def chosen(fitting, own):
+    """Some of the numbers that fit: the first and the last, those between, and its own."""
+    step = max(1, (len(fitting) - 1) // (MOST_NUMBERS - 1))
+    return sorted({*fitting[::step], fitting[-1], own})
+
+
+def distinct():
+    """The names of the models, without those that are others with another number."""
+    found = {}
+    for name, model in MODELS.items():
+        found.setdefault(model.__doc__, name)
+    return list(found.values())
+
+
+def put_likeness(found, search, tree):
+    """Says of each of these groups what it is like, as far as there is time."""
+    left = len(found)
+    for group in found:
+        share = limits.Until(search.until, search.until.left() / left)
+        left -= 1
+        one = Search(search.program, search.folder, share, search.jobs, search.link_first, search.models)
+        whole = shrinking.Shown(group.steps, tree, group.first)
+        group.likeness = one.likeness(group.shortest or whole)
+        if group.shortest and group.likeness:
+            one.order(group.likeness, whole)
