@@ -11,8 +11,8 @@ NUMBER = re.compile(r"\{([A-Z]+)\}")
 # What servers have for limits and lengths of counters, whatever a session shows.
 USUAL = [0, *(1 << power for power in range(4, 33))]
 
-# The most numbers of a model that are tried.
-MOST = 400
+# The most numbers of a model that are tried in a session, and how many at first where each takes longer.
+MOST, FEW = 300, 6
 
 
 class Noted(int):
@@ -76,15 +76,53 @@ def worth(seen, own):
     """The numbers of a model that may differ from each other where it was compared with these: each of them and its
     neighbours, the usual ones and its own."""
     near = {number + step for number in seen for step in (-1, 0, 1)}
-    found = sorted(number for number in near | {*USUAL, own} if number >= 0)
-    return found if len(found) <= MOST else found[:MOST]
+    return sorted(number for number in near | {*USUAL, own} if number >= 0)
 
 
-def spread(fitting, tried):
-    """The first of the numbers that fit, and the last up to which all that were tried fit, in words."""
-    first = last = min(fitting)
-    for number in tried[tried.index(first):]:
-        if number not in fitting:
-            break
-        last = number
-    return f"{first:,}" if first == last else f"{first:,} to {last:,}"
+def some(tried, most):
+    """Of these numbers so many at most, from the first to the last."""
+    step = max(1, -(-len(tried) // most))
+    return sorted({*tried[::step], tried[-1]})
+
+
+class Range:
+    """Numbers of a model that are alike: the first and the last."""
+
+    def __init__(self, fitting, tried):
+        """`fitting` are those of `tried` that fit: the range ends before the first one behind it that does not."""
+        self.first = self.last = fitting[0]
+        for number in tried[tried.index(self.first):]:
+            if number not in fitting:
+                break
+            self.last = number
+
+    def __contains__(self, number):
+        return self.first <= number <= self.last
+
+    def __str__(self):
+        return f"{self.first:,}" if self.first == self.last else f"{self.first:,} to {self.last:,}"
+
+    def narrow(self, tried, worth):
+        """Keeps those for which something is worth most, which is so from one of `tried` to another. `worth` says what
+        a number is worth; it is asked as seldom as halving allows. Gives the most that it said."""
+        inside = [number for number in tried if number in self]
+        known = {number: worth(number) for number in some(inside, FEW)}
+        most = max(known.values())
+        best = [number for number in known if known[number] == most]
+        self.first = edge(inside, best[0], max((it for it in known if it < best[0]), default=None), most, worth)
+        self.last = edge(inside, best[-1], min((it for it in known if it > best[-1]), default=None), most, worth)
+        return most
+
+
+def edge(tried, best, other, most, worth):
+    """The last number that is worth most on the way from one that is to one that is not."""
+    if other is None:
+        return best
+    between = sorted((it for it in tried if min(best, other) < it < max(best, other)), reverse=best > other)
+    while between:
+        half = len(between) // 2
+        if worth(between[half]) == most:
+            best, between = between[half], between[half + 1:]
+        else:
+            between = between[:half]
+    return best

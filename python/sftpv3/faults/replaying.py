@@ -21,6 +21,9 @@ from sftpv3.peer import pieces
 # Seconds to wait for a reply of `serve`, and for its end.
 PATIENCE, PARTING = 5, 2
 
+# How a model fails with a number that makes no sense for it, such as a modulus of 0.
+FAILS = (ArithmeticError, LookupError)
+
 
 class NoReply(Exception):
     """What stands before `serve`, or `serve` itself, gave no reply in time, or ended."""
@@ -141,7 +144,7 @@ class Replay:
             reader.start()
             try:
                 return self.exchange(model, model.pipe, came)
-            except (OSError, queue.Empty) as error:
+            except (OSError, queue.Empty, *FAILS) as error:
                 raise NoReply(str(error)) from None
             finally:
                 server.stdin.close()
@@ -167,9 +170,9 @@ class Replay:
 
 
 def listen(source, model, came):
-    """Passes replies on through a model until the server ends; None is the end."""
+    """Passes replies on through a model until the server ends, or the model fails; None is the end."""
     left = b""
-    with suppress(OSError, codec.Malformed):
+    with suppress(OSError, codec.Malformed, *FAILS):
         piece = os.read(source, 1 << 18)
         while piece:
             found, left = between.packets_of(left + piece)

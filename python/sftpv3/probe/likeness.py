@@ -6,6 +6,7 @@ the numbers that its sentence has searched for. If all replies that were judged 
 session that the difference came from is played behind these, too, and decides which is named first, and which numbers
 are left.
 """
+import copy
 from concurrent import futures
 from contextlib import suppress
 from dataclasses import dataclass, field
@@ -16,10 +17,11 @@ from sftpv3.codec import trees
 from sftpv3.faults import comparing, numbers, replaying
 from sftpv3.faults.models import MODELS
 from sftpv3.probe import groups, limits, set_times, shrinking
+from sftpv3.probe.sessions import Stopped
 from sftpv3.system import files
 
-# How many models, and how many numbers of one, are played with the first session of a difference.
-MOST_FIT, MOST_NUMBERS = 8, 12
+# How many models are played with the first session of a difference.
+MOST_FIT = 8
 
 # The verdicts on replies that can be compared.
 KINDS = {"NotAllowed", "NotModelled", "Times"}
@@ -30,27 +32,20 @@ TIMES = ("--times",)
 
 @dataclass
 class Fit:
-    """A model under which all replies are alike: the numbers that fit, of those that were tried, or None where it has
-    no number; and how many replies of the first session are alike with it."""
+    """A model under which all replies are alike: the numbers with which they are, or None where it has no number; and
+    how many replies of the first session are alike with it."""
 
     name: str
-    fitting: Optional[List[int]] = None
-    tried: Optional[List[int]] = None
+    range: Optional[numbers.Range] = None
     whole: int = -1
 
     @property
     def model(self):
         return MODELS[self.name]
 
-    def number(self):
-        """One of the numbers that fit: its own, if that does."""
-        if self.fitting is None:
-            return None
-        own = getattr(self.model, numbers.name_of(self.model))
-        return own if own in self.fitting else self.fitting[0]
-
     def sentence(self):
-        text = numbers.sentence(self.model, self.fitting and numbers.spread(self.fitting, self.tried))
+        """What such a server does wrong, as the rest of a sentence."""
+        text = numbers.sentence(self.model, self.range and str(self.range))
         first = text.split()[0]
         return (text if first.upper() == first and len(first) > 1 else text[0].lower() + text[1:]).rstrip(".")
 
@@ -64,6 +59,11 @@ class Likeness:
     models: int = 0
     replies: int = 0
 
+    def as_dictionary(self):
+        """The same for a report."""
+        return {"models": self.models, "replies": self.replies,
+                "fits": [{"model": fit.name, "sentence": fit.sentence()} for fit in self.fits]}
+
     def lines(self):
         """What is said of it: at most three models."""
         if not self.fits:
@@ -71,10 +71,6 @@ class Likeness:
         many = f"{len(self.fits)} of {self.models} models fit{'s' * (len(self.fits) == 1)}"
         first = f"as if: {self.fits[0].sentence()} ({self.replies} of {self.replies} replies alike; {many})"
         return [first] + [f"or: {fit.sentence()}" for fit in self.fits[1:3]]
-
-
-class Unlike(Exception):
-    """A session that cannot be compared."""
 
 
 class Played:
@@ -108,6 +104,13 @@ class Played:
             # what shows other times is alike only if the model shows such times, too
             count -= len(self.times ^ of_times(self.played_records(given)))
         return count
+
+    def numbers(self, model):
+        """The numbers of a model that may differ from each other in this session."""
+        own, seen = getattr(model, numbers.name_of(model)), set()
+        with suppress(replaying.NeedsServer, *replaying.FAILS):
+            replaying.digest(self.script, self.sound, numbers.with_number(model, numbers.Noted(own, seen))())
+        return numbers.worth(seen, own)
 
     def played_records(self, given):
         """The records of a play."""
@@ -171,13 +174,14 @@ class Search:
         """How a model fits, or None."""
         if self.until.is_set():
             return None
-        with suppress(ArithmeticError):
-            return self.fit_with_number(played, name) if numbers.name_of(MODELS[name]) else self.fit_as_it_is(
-                played, name)
+        with suppress(*replaying.FAILS):
+            has_number = numbers.name_of(MODELS[name]) is not None
+            return self.fit_with_number(played, name) if has_number else self.fit_as_it_is(played, name)
         return None
 
     @staticmethod
     def fit_as_it_is(played, name):
+        """Plays a model that changes something in the session."""
         with suppress(replaying.NeedsServer):
             if replaying.digest(played.script, played.sound, MODELS[name]()) is None:
                 return None
@@ -185,21 +189,17 @@ class Search:
 
     def fit_with_number(self, played, name):
         """Tries each number that may differ from the others in this session."""
-        model = MODELS[name]
-        own, seen = getattr(model, numbers.name_of(model)), set()
-        with suppress(replaying.NeedsServer):
-            replaying.digest(played.script, played.sound, numbers.with_number(model, numbers.Noted(own, seen))())
-        tried, alike, fitting = numbers.worth(seen, own), {None: False}, []
+        tried, alike, fitting = numbers.some(played.numbers(MODELS[name]), numbers.MOST), {None: False}, []
         for number in tried:
             if self.until.is_set():
                 return None
-            chosen = numbers.with_number(model, number)
-            with suppress(ArithmeticError):
-                made = replaying.digest(played.script, played.sound, chosen())
+            model = numbers.with_number(MODELS[name], number)
+            with suppress(*replaying.FAILS):
+                made = self.made(played, MODELS[name], number)
                 if made not in alike:
-                    alike[made] = played.alike(chosen()) == played.replies
+                    alike[made] = played.alike(model()) == played.replies
                 fitting += [number] if alike[made] else []
-        return Fit(name, fitting, tried) if fitting else None
+        return Fit(name, numbers.Range(fitting, tried)) if fitting else None
 
     def order(self, found, shown):
         """Puts those first that suit another session best, and takes those numbers that do."""
@@ -217,24 +217,31 @@ class Search:
         """Plays a session behind a model that fits another one, with some of its numbers."""
         if self.until.is_set():
             return
-        if fit.fitting is None:
+        if fit.range is None:
             fit.whole = played.alike(fit.model())
             return
-        some = chosen(fit.fitting, fit.number())
-        alike = {}
-        for number in some:
-            if self.until.is_set():
-                return
-            alike[number] = played.alike(numbers.with_number(fit.model, number)())
-        fit.whole = max(alike.values())
-        best = [number for number in some if alike[number] == fit.whole]
-        fit.fitting = [number for number in fit.fitting if min(best) <= number <= max(best)]
+        known = {}
 
+        def worth(number):
+            made = self.made(played, fit.model, number)
+            if made not in known:
+                if self.until.is_set():
+                    raise Stopped()
+                known[made] = played.alike(numbers.with_number(fit.model, number)())
+            return known[made]
+        # what was not seen to be narrower stays as it was
+        left, tried = copy.copy(fit.range), sorted({fit.range.first, fit.range.last, *played.numbers(fit.model)})
+        with suppress(Stopped):
+            fit.whole = left.narrow(tried, worth)
+            fit.range = left
 
-def chosen(fitting, own):
-    """Some of the numbers that fit: the first and the last, those between, and its own."""
-    step = max(1, (len(fitting) - 1) // (MOST_NUMBERS - 1))
-    return sorted({*fitting[::step], fitting[-1], own})
+    @staticmethod
+    def made(played, model, number):
+        """What tells a number of a model from others in a session: None if nothing is changed with it."""
+        try:
+            return replaying.digest(played.script, played.sound, numbers.with_number(model, number)())
+        except replaying.NeedsServer:
+            return number
 
 
 def distinct():

@@ -133,7 +133,7 @@ def of_group(number, group):
             "allowed_by": group.allowed, "accepted_with": group.accepted_with, "count": group.count,
             "seeds": group.seeds, "requests": len(group.shortest.steps) if group.shortest else None,
             "kept": group.kept and group.kept[0], "story": group.story(), "verdict": group.first.verdict.kind,
-            "byte": byte and byte.as_dictionary()}
+            "byte": byte and byte.as_dictionary(), "as_if": group.likeness and group.likeness.as_dictionary()}
 
 
 def write_json_lines(name, tally, found, kinds):
