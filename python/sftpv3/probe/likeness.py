@@ -33,11 +33,11 @@ TIMES = ("--times",)
 @dataclass
 class Fit:
     """A model under which all replies are alike: the numbers with which they are, or None where it has no number; and
-    how many replies of the first session are alike with it."""
+    how many replies of the first session are alike with it, or None where no time was left to see that."""
 
     name: str
     range: Optional[numbers.Range] = None
-    whole: int = -1
+    whole: Optional[int] = None
 
     @property
     def model(self):
@@ -211,7 +211,8 @@ class Search:
             return
         with futures.ThreadPoolExecutor(self.jobs) as pool:
             list(pool.map(lambda fit: self.narrow(played, fit), found.fits[:MOST_FIT]))
-        found.fits.sort(key=lambda fit: -fit.whole)
+        if all(fit.whole is not None for fit in found.fits[:MOST_FIT]):
+            found.fits[:MOST_FIT] = sorted(found.fits[:MOST_FIT], key=lambda fit: -fit.whole)
 
     def narrow(self, played, fit):
         """Plays a session behind a model that fits another one, with some of its numbers."""

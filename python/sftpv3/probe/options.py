@@ -224,6 +224,8 @@ def add_of_run(add):
     add("--max-kinds", metavar="N", type=positive, help="play no more seeds once there are N kinds of difference")
     add("--quick", action="store_true",
         help="a first run, of at most a minute: plain requests alone, each kind of difference shrunk and shown at once")
+    add("--checks", action="store_true",
+        help="list the scenes of the plans, how often each ran, passed and failed, and what left it out; in a report, too")
     add("--known", metavar="FILE",
         help="a report in JSON lines: its kinds of difference are expected, and only counted")
     add("--last-failed", action="store_true", help="play the seeds that differed in the last run with this --keep")
@@ -280,7 +282,8 @@ def check_clients(found, given):
     """Refuses what --clients has no use for."""
     for option, value in (("--look-first", given.look_first), ("--session", given.session), ("--also", given.also),
                           ("--in-flight", given.in_flight), ("--quick", given.quick), ("--known", given.known),
-                          ("--last-failed", given.last_failed), ("--max-kinds", given.max_kinds)):
+                          ("--last-failed", given.last_failed), ("--max-kinds", given.max_kinds),
+                          ("--checks", given.checks)):
         if value:
             found.error(f"--clients excludes {option}")
     if given.report and given.report.endswith((".html", ".htm")):

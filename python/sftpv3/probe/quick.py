@@ -98,13 +98,14 @@ class Run(runs.Run):
         try:
             known.keep_failed(self.given, self.tally.seeds_that_differ())
             if self.given.report:
-                reports.write(self.given.report, self.given, self.tally, self.found, self.known)
+                reports.write(self.given.report, self, self.found)
         except OSError as error:
             wrong.append(error)
         for advice in self.advice(self.found):
             program.tell(f"probe: {advice}")
         if self.found:
             program.say("")
+        self.print_checks()
         program.say(reports.summary(self.tally, self.found) + known.summary(self.known) + "; without --quick the probe "
                     "looks further")
         if wrong:

@@ -204,7 +204,9 @@ def judge(auditor, tree_file, session, seed=0, stop=None):
             gone = ownerless(records, gone, judged)
         judged.leave_out(records, gone, request, reply)
         places = [] if gone is None else [place for at, place in enumerate(places) if at not in gone]
-    judged.unjudged += sum(session.records[place][0] == b"C" for place in places if place > judged.place())
+    behind = [place for place in places if place > judged.place() and session.records[place][0] == codec.CLIENT]
+    judged.unjudged += len(behind)
+    judged.unjudged_ids |= {codec.id_of(session.records[place][1]) for place in behind}
     judged.differences += of_times(session, seed, auditor.lacks.has_access_times())
     if session.crashed():
         judged.differences.append(of_crash(session, seed))
