@@ -1,4 +1,4 @@
-"""Servers that keep what they take, and one with little room: faults and no faults of a process, which no reply shows."""
+"""Servers that keep what they take, and one with little room: no reply shows that."""
 import os
 import struct
 

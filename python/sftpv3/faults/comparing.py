@@ -92,8 +92,8 @@ class Listing:
                     self.shown[name] = attributes(given)
 
     def against(self, sound, fields):
-        """How it differs from the sound one: names that it lacks, if both have ended, and has besides, if that has; names
-        that come twice; whether it fails; and of these fields what it shows otherwise."""
+        """How it differs from the sound one: names that it lacks, if both have ended, and has besides, if that has
+        ended; names that come twice; whether it fails; and of these fields what it shows otherwise."""
         lacks = frozenset(sound.names.keys() - self.names.keys()) if self.has_ended and sound.has_ended else None
         more = frozenset(self.names.keys() - sound.names.keys()) if sound.has_ended else None
         twice = frozenset(name for name, count in self.names.items() if count > 1)

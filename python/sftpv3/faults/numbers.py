@@ -12,7 +12,7 @@ NUMBER = re.compile(r"\{([A-Z]+)\}")
 USUAL = [0, *(1 << power for power in range(4, 33))]
 
 # The most numbers of a model that are tried in a session, and how many at first where each takes longer.
-MOST, FEW = 300, 6
+MOST, FEW = 300, 5
 
 
 class Noted(int):
@@ -102,16 +102,28 @@ class Range:
     def __str__(self):
         return f"{self.first:,}" if self.first == self.last else f"{self.first:,} to {self.last:,}"
 
-    def narrow(self, tried, worth):
-        """Keeps those for which something is worth most, which is so from one of `tried` to another. `worth` says what
-        a number is worth; it is asked as seldom as halving allows. Gives the most that it said."""
-        inside = [number for number in tried if number in self]
-        known = {number: worth(number) for number in some(inside, FEW)}
-        most = max(known.values())
+    def most(self, tried, worth):
+        """What some of the numbers among `tried` are worth, by `worth`: each of these, and the most. Something is worth
+        less, the further it is from what is worth most, so it is looked for between the neighbours of the best."""
+        inside, known, best = [number for number in tried if number in self], {}, []
+        while True:
+            few = sorted({*some(inside, FEW), *best})
+            known.update((number, worth(number)) for number in few if number not in known)
+            most = max(known.values())
+            best = [number for number in few if known[number] == most]
+            if len(few) == len(inside) or len(best) > 1:
+                return known, most
+            place = few.index(best[0])
+            low, high = few[max(0, place - 1)], few[min(len(few) - 1, place + 1)]
+            inside = [number for number in inside if low <= number <= high]
+
+    def narrow(self, tried, known, worth):
+        """Keeps those that are worth most, where some are known: these are all from one of `tried` to another. `worth`
+        is asked as seldom as halving allows."""
+        inside, most = [number for number in tried if number in self], max(known.values())
         best = [number for number in known if known[number] == most]
         self.first = edge(inside, best[0], max((it for it in known if it < best[0]), default=None), most, worth)
         self.last = edge(inside, best[-1], min((it for it in known if it > best[-1]), default=None), most, worth)
-        return most
 
 
 def edge(tried, best, other, most, worth):

@@ -1,5 +1,5 @@
-"""What was looked at: for each scene of the plans how often it ran against this server, and how it went; and how far the
-sessions reached, so that what was never met is seen.
+"""What was looked at: for each scene of the plans how often it ran against this server, and how it went; and how far
+the sessions reached, so that what was never met is seen.
 
 A scene passed in a session if each of its requests that was asked was judged, and none differs. Its sections are those
 of the draft (draft-ietf-secsh-filexfer-02) on what it asks, or of OpenSSH's PROTOCOL.
@@ -40,8 +40,8 @@ class Reached:
             setattr(self, one.name, max(getattr(self, one.name), getattr(other, one.name)))
 
     def text(self):
-        return (f"reached: {self.pages} pages of a listing, a packet of {self.packet:,} bytes, {self.in_flight} requests "
-                f"in flight, {self.handles} handles, {self.foreign} READs behind WRITEs through other handles")
+        return (f"reached: {self.pages} pages of a listing, a packet of {self.packet:,} bytes, {self.in_flight} "
+                f"requests in flight, {self.handles} handles, {self.foreign} READs behind WRITEs through other handles")
 
 
 def handle_in(packet):

@@ -32,12 +32,10 @@ TIMES = ("--times",)
 
 @dataclass
 class Fit:
-    """A model under which all replies are alike: the numbers with which they are, or None where it has no number; and
-    how many replies of the first session are alike with it, or None where no time was left to see that."""
+    """A model under which all replies are alike: the numbers with which they are, or None where it has no number."""
 
     name: str
     range: Optional[numbers.Range] = None
-    whole: Optional[int] = None
 
     @property
     def model(self):
@@ -74,12 +72,11 @@ class Likeness:
 
 
 class Played:
-    """A session that a server had, and how `serve` plays it. `judged` are the differences in it, and `unjudged` the ids
-    of requests whose replies were not judged."""
+    """A session that a server had, and how `serve` plays it, up to where the server was started again. `judged` are the
+    differences in it, and `unjudged` the ids of requests whose replies were not judged."""
 
     def __init__(self, program, tree_file, session, judged, unjudged, link_first):
-        end = session.again
-        records = session.records[:end]
+        records = session.records[:session.again]
         self.script = replaying.Script(records, session.cut, link_first)
         self.records = records
         has_times = any(one.verdict.kind == "Times" for one in judged)
@@ -92,6 +89,8 @@ class Played:
         self.comparison = comparing.Comparison(self.script, theirs, self.sound.replies, refused, unjudged)
         self.times = of_times(records) if has_times else None
         self.replies = len(self.comparison.numbers)
+        # how many replies are alike behind models that were tried
+        self.known = {}
 
     def alike(self, model):
         """How many replies are alike behind a model."""
@@ -139,12 +138,57 @@ def fields_of(difference):
     return differ | {"kind"} if "permissions" in differ else differ or None
 
 
+class Weighed:
+    """A model that fits one session, as it suits another."""
+
+    def __init__(self, until, played, fit):
+        self.until, self.played, self.fit = until, played, fit
+        # what some numbers are worth: how many replies are alike with them
+        self.known = {}
+        self.tried = fit.range and sorted({fit.range.first, fit.range.last, *played.numbers(fit.model)})
+
+    def worth(self, number=None):
+        """How many replies are alike with a number, or with none. Raises Stopped once no time is left."""
+        made, known = self.fit.name, self.played.known
+        if number is not None:
+            made = self.fit.name, made_of(self.played, self.fit.model, number)
+        if made not in known:
+            if self.until.is_set():
+                raise Stopped()
+            known[made] = self.played.alike(numbers.with_number(self.fit.model, number)())
+        return known[made]
+
+    def weigh(self):
+        """How many replies are alike with the best of its numbers that are tried."""
+        if self.fit.range is None:
+            return self.worth()
+        self.known, most = self.fit.range.most(self.tried, self.worth)
+        return most
+
+    def narrow(self):
+        """Takes the numbers with which most are alike. What was not seen to be narrower stays as it was."""
+        if self.fit.range is None:
+            return
+        left = copy.copy(self.fit.range)
+        with suppress(Stopped):
+            left.narrow(self.tried, self.known, self.worth)
+            self.fit.range = left
+
+
 class Search:
     """Looks for models of one difference."""
 
-    def __init__(self, program, folder, until, jobs, link_first, models=None):
+    def __init__(self, program, folder, until, jobs, link_first):
         self.program, self.folder, self.until, self.jobs = program, folder, until, jobs
-        self.link_first, self.models = link_first, models or distinct()
+        self.link_first, self.models = link_first, distinct()
+        # first sessions of differences, as `serve` plays them: several may come from one
+        self.wholes = {}
+
+    def within(self, seconds):
+        """The same search, for at most so many seconds."""
+        found = copy.copy(self)
+        found.until = limits.Until(self.until, seconds)
+        return found
 
     def likeness(self, shown):
         """What fits a session that shows a difference, or None where it cannot be compared or no time is left."""
@@ -195,7 +239,7 @@ class Search:
                 return None
             model = numbers.with_number(MODELS[name], number)
             with suppress(*replaying.FAILS):
-                made = self.made(played, MODELS[name], number)
+                made = made_of(played, MODELS[name], number)
                 if made not in alike:
                     alike[made] = played.alike(model()) == played.replies
                 fitting += [number] if alike[made] else []
@@ -203,46 +247,34 @@ class Search:
 
     def order(self, found, shown):
         """Puts those first that suit another session best, and takes those numbers that do."""
-        if not found or not found.fits or shown.difference.session.again is not None or self.until.is_set():
+        if not found.fits or self.until.is_set():
             return
         try:
-            played = self.played(shown)
+            played = self.whole(shown)
         except replaying.NoReply:
             return
-        with futures.ThreadPoolExecutor(self.jobs) as pool:
-            list(pool.map(lambda fit: self.narrow(played, fit), found.fits[:MOST_FIT]))
-        if all(fit.whole is not None for fit in found.fits[:MOST_FIT]):
-            found.fits[:MOST_FIT] = sorted(found.fits[:MOST_FIT], key=lambda fit: -fit.whole)
+        first = found.fits[:MOST_FIT]
+        weighed = [Weighed(self.until, played, fit) for fit in first]
+        with suppress(Stopped), futures.ThreadPoolExecutor(self.jobs) as pool:
+            wholes = list(pool.map(Weighed.weigh, weighed))
+            order = sorted(range(len(first)), key=lambda place: -wholes[place])
+            found.fits[:MOST_FIT] = [first[place] for place in order]
+            list(pool.map(Weighed.narrow, [weighed[place] for place in order if wholes[place] == max(wholes)]))
 
-    def narrow(self, played, fit):
-        """Plays a session behind a model that fits another one, with some of its numbers."""
-        if self.until.is_set():
-            return
-        if fit.range is None:
-            fit.whole = played.alike(fit.model())
-            return
-        known = {}
+    def whole(self, shown):
+        """The first session of a difference, which may be that of others, too."""
+        session = shown.difference.session
+        if id(session) not in self.wholes:
+            self.wholes[id(session)] = self.played(shown)
+        return self.wholes[id(session)]
 
-        def worth(number):
-            made = self.made(played, fit.model, number)
-            if made not in known:
-                if self.until.is_set():
-                    raise Stopped()
-                known[made] = played.alike(numbers.with_number(fit.model, number)())
-            return known[made]
-        # what was not seen to be narrower stays as it was
-        left, tried = copy.copy(fit.range), sorted({fit.range.first, fit.range.last, *played.numbers(fit.model)})
-        with suppress(Stopped):
-            fit.whole = left.narrow(tried, worth)
-            fit.range = left
 
-    @staticmethod
-    def made(played, model, number):
-        """What tells a number of a model from others in a session: None if nothing is changed with it."""
-        try:
-            return replaying.digest(played.script, played.sound, numbers.with_number(model, number)())
-        except replaying.NeedsServer:
-            return number
+def made_of(played, model, number):
+    """What tells a number of a model from others in a session: None if nothing is changed with it."""
+    try:
+        return replaying.digest(played.script, played.sound, numbers.with_number(model, number)())
+    except replaying.NeedsServer:
+        return number
 
 
 def distinct():
@@ -255,12 +287,12 @@ def distinct():
 
 def put_likeness(found, search, tree):
     """Says of each of these groups what it is like, as far as there is time."""
-    left = len(found)
+    firsts = {}
     for group in found:
-        share = limits.Until(search.until, search.until.left() / left)
-        left -= 1
-        one = Search(search.program, search.folder, share, search.jobs, search.link_first, search.models)
-        whole = shrinking.Shown(group.steps, tree, group.first)
+        firsts.setdefault(id(group.first.session), []).append(group.first)
+    for left, group in zip(range(len(found), 0, -1), found):
+        one = search.within(search.until.left() / left)
+        whole = shrinking.Shown(group.steps, tree, group.first, firsts[id(group.first.session)])
         group.likeness = one.likeness(group.shortest or whole)
         if group.shortest and group.likeness:
             one.order(group.likeness, whole)

@@ -219,13 +219,14 @@ def add_of_run(add):
         help=f"seconds to wait for a reply ({servers.TIMEOUT}), and {servers.OPENING} times as long for VERSION")
     add("--patience", metavar="S", type=seconds, help="seconds after which no more is played (no limit)")
     add("--budget", metavar="S", type=pause, default=shrinking.BUDGET,
-        help=f"seconds to shrink all differences ({shrinking.BUDGET}); 0: shrink none")
+        help=f"seconds to shrink all differences, and as many to compare them with models of faults "
+             f"({shrinking.BUDGET}); 0: neither")
     add("--first", action="store_true", help="play no more seeds once there is a difference")
     add("--max-kinds", metavar="N", type=positive, help="play no more seeds once there are N kinds of difference")
     add("--quick", action="store_true",
         help="a first run, of at most a minute: plain requests alone, each kind of difference shrunk and shown at once")
     add("--checks", action="store_true",
-        help="list the scenes of the plans, how often each ran, passed and failed, and what left it out; in a report, too")
+        help="list the scenes of the plans: how often each ran and how it went, or what left it out; in a report, too")
     add("--known", metavar="FILE",
         help="a report in JSON lines: its kinds of difference are expected, and only counted")
     add("--last-failed", action="store_true", help="play the seeds that differed in the last run with this --keep")

@@ -10,7 +10,8 @@ from sftpv3.codec import trees
 from sftpv3.page import document
 from sftpv3.peer import servers
 from sftpv3.probe import (below, checks, features, groups, hints, known, lacking, lasting, leaks, limits, options,
-                          ownfiles, planner, plans, reports, restarts, sessions, shrinking, starting, together, verdicts)
+                          ownfiles, planner, plans, reports, restarts, sessions, shrinking, starting, together,
+                          verdicts)
 from sftpv3.probe.sessions import NotStarted
 from sftpv3.system import program
 from sftpv3.walk import bounds
@@ -18,10 +19,6 @@ from sftpv3.walk import bounds
 # How often a plan is played at most, each time without one more of its requests; and how often, if the server ends
 # behind as many requests each time, whatever they are.
 MOST_PLAYED, MOST_ENDED = 12, 3
-
-
-# The most seconds in which all differences are compared with models of faults.
-LIKENESS = 60
 
 
 @dataclass
@@ -330,8 +327,7 @@ class Run:
             hints.put_hints(self.groups.all(), self.auditor, self.tree, self.folder, until)
 
     def liken(self, found, seconds):
-        """Says of these differences what models of faults they are like, as far as there is time. Without --budget
-        nobody waits for that."""
+        """Says of these differences what models of faults they are like, as far as there is time."""
         # the models are many, and most runs need none
         from sftpv3.probe import likeness
         search = likeness.Search(self.program, self.folder, limits.Until(self.until, seconds), self.pool.jobs,
@@ -403,7 +399,7 @@ class Run:
             self.shrink()
             self.hint()
             if self.groups.by_key and self.given.budget:
-                self.liken(self.groups.all(), LIKENESS)
+                self.liken(self.groups.all(), self.given.budget)
         except Exception as error:  # noqa: BLE001 (what was found is reported first, whatever failed)
             trouble = error
             self.progress.clear()
