@@ -126,10 +126,13 @@ def processors():
 
 
 def jobs(given):
-    """How many servers run side by side: one for each processor, if each starts from a tree file of its own."""
+    """How many servers run side by side: one for each processor, if each starts from a tree file or in a folder of its
+    own, which --reset then fills."""
     if given.jobs:
         return given.jobs
-    alone = given.reset or not any("{tree}" in word for word in given.command)
+    has_folder = any("{folder}" in word for word in given.command)
+    alone = not (has_folder and "{folder}" in given.reset if given.reset else has_folder or
+                 any("{tree}" in word for word in given.command))
     return 1 if alone else max(1, processors() // given.clients) if given.clients else processors()
 
 
@@ -214,7 +217,8 @@ def add_of_plans(add):
 def add_of_run(add):
     add("--reset", metavar="COMMAND", help="a shell command to run before each session")
     add("--jobs", metavar="N", type=side_by_side,
-        help="servers side by side (as many as processors; 1 with --reset, or if the command has no {tree})")
+        help="servers side by side (as many as processors; 1 if sessions share files: without {tree} or {folder} in the "
+             "command, or with --reset and without {folder} in both)")
     add("--timeout", metavar="S", type=seconds, default=servers.TIMEOUT,
         help=f"seconds to wait for a reply ({servers.TIMEOUT}), and {servers.OPENING} times as long for VERSION")
     add("--patience", metavar="S", type=seconds, help="seconds after which no more is played (no limit)")
