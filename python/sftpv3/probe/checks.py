@@ -40,8 +40,8 @@ class Reached:
             setattr(self, one.name, max(getattr(self, one.name), getattr(other, one.name)))
 
     def text(self):
-        return (f"reached: {self.pages} pages of a listing, a packet of {self.packet:,} bytes, {self.in_flight} "
-                f"requests in flight, {self.handles} handles, {self.foreign} READs behind WRITEs through other handles")
+        return (f"reached: pages of a listing {self.pages}, bytes of a packet {self.packet:,}, requests in flight "
+                f"{self.in_flight}, handles {self.handles}, READs behind WRITEs through other handles {self.foreign}")
 
 
 def handle_in(packet):
