@@ -30,7 +30,7 @@ def try_checks(steps, folder):
                 "(skipped: --skip crowds)" in rows["few-names"][-1] and rows["few-names"][0] == 0, rows["few-names"])
     steps.check("--checks: sections of the draft", rows["read-back"][-1].startswith("6."), rows["read-back"])
     steps.check("the line before the last one says how far sessions reached",
-                re.match(r"reached: pages of a listing \d+, bytes of a packet ", said.strip().splitlines()[-2]), said[-600:])
+                re.match(r"reached: pages of a listing \d+, bytes", said.strip().splitlines()[-2]), said[-600:])
 
 
 def try_reports(steps, folder):

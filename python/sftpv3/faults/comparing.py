@@ -91,11 +91,12 @@ class Listing:
                     self.names[name] += 1
                     self.shown[name] = attributes(given)
 
-    def against(self, sound, fields):
+    def against(self, sound, fields, is_refused):
         """How it differs from the sound one: names that it lacks, if both have ended, and has besides, if that has
-        ended; names that come twice; whether it fails; and of these fields what it shows otherwise."""
+        ended or what it gave was refused; names that come twice; whether it fails; and of these fields what it shows
+        otherwise."""
         lacks = frozenset(sound.names.keys() - self.names.keys()) if self.has_ended and sound.has_ended else None
-        more = frozenset(self.names.keys() - sound.names.keys()) if sound.has_ended else None
+        more = frozenset(self.names.keys() - sound.names.keys()) if sound.has_ended or is_refused else None
         twice = frozenset(name for name, count in self.names.items() if count > 1)
         other = frozenset((name, what, self.shown[name].get(what)) for name in self.names.keys() & sound.names.keys()
                           for what in fields if self.shown[name].get(what) != sound.shown[name].get(what))
@@ -174,7 +175,7 @@ class Comparison:
             numbers = [number for number in self.script.listed if self.script.openers[number][0] == opener]
             refused = [self.refused[number] for number in numbers if number in self.refused]
             fields = set().union(*(one.fields or () for one in refused))
-            theirs, other = of_server[opener].against(sound, fields), of_model[opener].against(sound, fields)
+            theirs, other = (it[opener].against(sound, fields, bool(refused)) for it in (of_server, of_model))
             is_alike = all(one == two or one is None or two is None for one, two in zip(theirs, other))
             found.update(dict.fromkeys(numbers, is_alike and (not refused or any(other))))
         return found
