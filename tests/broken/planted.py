@@ -5,7 +5,6 @@
 runs the command, a server without bugs, and stands between it and the client: BUG is a name below, whose text says what
 goes wrong.
 """
-import contextlib
 import itertools
 import os
 import subprocess

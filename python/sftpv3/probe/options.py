@@ -217,8 +217,8 @@ def add_of_plans(add):
 def add_of_run(add):
     add("--reset", metavar="COMMAND", help="a shell command to run before each session")
     add("--jobs", metavar="N", type=side_by_side,
-        help="servers side by side (as many as processors; 1 where sessions may share files: without {tree} or {folder} "
-             "in the command, or with --reset and without {folder} in both)")
+        help="servers side by side (as many as processors; 1 where sessions may share files: without {tree} or "
+             "{folder} in the command, or with --reset and without {folder} in both)")
     add("--timeout", metavar="S", type=seconds, default=servers.TIMEOUT,
         help=f"seconds to wait for a reply ({servers.TIMEOUT}), and {servers.OPENING} times as long for VERSION")
     add("--patience", metavar="S", type=seconds, help="seconds after which no more is played (no limit)")
