@@ -135,7 +135,8 @@ class Replay:
     def play(self, model: Optional[between.Bug] = None) -> Given:
         """The replies, with a model in between or with none. Raises NoReply."""
         model = model or between.Bug()
-        words = [*self.command, *getattr(model, "OPTIONS", ())]
+        # an option may be given once
+        words = [*self.command, *(it for it in getattr(model, "OPTIONS", ()) if it not in self.command)]
         with subprocess.Popen(words, stdin=subprocess.PIPE, stdout=subprocess.PIPE, stderr=subprocess.DEVNULL,
                               bufsize=0) as server:
             came = queue.SimpleQueue()
