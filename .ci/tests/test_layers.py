@@ -15,7 +15,7 @@ sys.dont_write_bytecode = True
 PACKAGE = "sftpv3"
 # From the lowest on.
 LAYERS = ("codec", "system", "spool", "recorder", "nights", "serve", "tree", "together", "audits", "logs", "peer",
-          "page", "walk", "probe", "servers", "commands")
+          "faults", "page", "walk", "probe", "servers", "commands")
 
 
 def modules(top: Path) -> dict[str, ast.Module]:

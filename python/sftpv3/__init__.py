@@ -9,6 +9,7 @@ serve     serves a session that a signal ends in order: sftpv3-serve
 tree      the tree of a live folder: sftpv3-tree
 together  an order that explains sessions which overlapped: sftpv3-together
 peer      a server as its client has it: its process, its packets, its end
+faults    models of what servers do wrong, which the probe compares with what it found, and tests put before a server
 page      a recorded session as HTML: sftpv3-page
 walk      looks at the files of a server: sftpv3-walk
 probe     plays planned sessions against a server: sftpv3-probe

@@ -1,8 +1,8 @@
 """Servers with faults, which tests/stand-in starts:
 
 planted          servers with bugs, for tests/test-probe
-faults           servers with one fault each, for tests/test-probe-faults: the modules faulty_* that it names have them,
-                 faulty what they are made of
+faults           servers with one fault each, for tests/test-probe-faults: the models of python/sftpv3/faults, and
+                 those of keeping, which no reply shows
 faulty_lasting   servers whose fault only the next session shows, for tests/test-lasting
 faulty_together  servers whose fault only two clients at once show, for tests/test-together
 misbehaving      servers that end, hang and are late, for tests/test-probe-runs; unusual: ones that are right

@@ -12,10 +12,10 @@ import sys
 import time
 
 from broken import misbehaving, planted
-from broken.faulty import data_of, with_data, with_names
 from broken.misbehaving import Healthy, status
-from broken.planted import write
 from sftpv3 import codec
+from sftpv3.faults.between import write
+from sftpv3.faults.kinds import data_of, with_data, with_names
 
 TYPES, DIRECTORY, FILE, LINK, FIFO = 0o170000, 0o040755, 0o100644, 0o120777, 0o010644
 

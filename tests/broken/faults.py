@@ -7,29 +7,22 @@ faults. docs/PROBE.md says what finds each.
 """
 import sys
 
-from broken import (
-    faulty, faulty_buffers, faulty_contents, faulty_deeper, faulty_handles, faulty_holdings, faulty_kept,
-    faulty_meetings, faulty_names, faulty_open, faulty_order, faulty_places, faulty_reads, faulty_replies,
-    faulty_served, faulty_stores, faulty_takeovers, faulty_times, faulty_writes, planted
-)
+from broken import keeping, planted
+from sftpv3.faults.models import MODELS
+from sftpv3.faults.numbers import sentence
 
-MODULES = (faulty_writes, faulty_reads, faulty_names, faulty_replies, faulty_open, faulty_meetings, faulty_order,
-           faulty_kept, faulty_stores, faulty_handles, faulty_served, faulty_times, faulty_places, faulty_contents,
-           faulty_takeovers, faulty_holdings, faulty_deeper, faulty_buffers)
-
-# The faults by their names, in the order of docs/PROBE.md: the classes of a module whose names are in small letters.
-FAULTS = {name.replace("_", "-"): fault
-          for module in MODULES for name, fault in vars(module).items()
-          if name.islower() and isinstance(fault, type) and issubclass(fault, faulty.Fault)}
+# The faults by their names, in the order of docs/PROBE.md: the models of the package, and those of a process.
+FAULTS = {**MODELS, "descriptor-leaks-by-listing": keeping.descriptor_leaks_by_listing,
+          "descriptor-leaks-by-file": keeping.descriptor_leaks_by_file}
 
 # What is no fault, or shows in no reply.
-SOUND = {"small-room": faulty.SmallRoom, "memory-leaks": faulty_buffers.MemoryLeaks}
+SOUND = {"small-room": keeping.SmallRoom, "memory-leaks": keeping.MemoryLeaks}
 
 
 def main():
     if len(sys.argv) == 1:
         for name, fault in FAULTS.items():
-            print(f"{name}: {' '.join(fault.__doc__.split())}")
+            print(f"{name}: {sentence(fault)}")
         return
     fault, command = planted.named({**FAULTS, **SOUND}, "without arguments, it lists them")
     planted.run(fault(), command)

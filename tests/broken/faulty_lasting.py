@@ -11,18 +11,18 @@ import posixpath
 import unicodedata
 
 from broken import planted
-from broken.faulty import clean
-from broken.planted import fault
 from sftpv3 import codec
 from sftpv3.codec import trees
 from sftpv3.codec.trees import DIRECTORY, FILE, FURTHER, LINK, Entry
+from sftpv3.faults.between import Bug, fault
+from sftpv3.faults.kinds import clean
 from sftpv3.system.program import program
 
 # The bytes of a block of a disk, and how many names the fault of listings keeps.
 BLOCK, NAMES = 4096, 1000
 
 
-class sound(planted.Bug, asked=dict, opened=dict, renamed=list, replaced=set, sizes=dict, lengths=dict, was_open=set,
+class sound(Bug, asked=dict, opened=dict, renamed=list, replaced=set, sizes=dict, lengths=dict, was_open=set,
             before=dict, after=dict):
     """Right: what a session leaves is there in the next."""
 

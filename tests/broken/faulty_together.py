@@ -9,12 +9,13 @@ import collections
 
 from broken import planted
 from sftpv3 import codec
+from sftpv3.faults.between import Bug
 
 # Requests that change nothing.
 LOOKERS = {"STAT", "LSTAT", "FSTAT", "READLINK", "REALPATH", "READ", "OPENDIR", "READDIR", "CLOSE"}
 
 
-class sound(planted.Bug, asked=dict, keys=dict, known=dict, paths=dict):
+class sound(Bug, asked=dict, keys=dict, known=dict, paths=dict):
     """Right: nothing is kept."""
 
     # It knows what each request is known by, and what was replied to those that are alike; and the paths of handles.

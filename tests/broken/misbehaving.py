@@ -11,8 +11,8 @@ import sys
 import time
 
 from broken import planted
-from broken.planted import fault, write
 from sftpv3 import codec
+from sftpv3.faults.between import fault, write
 
 # The flag of an owner among attributes.
 OWNER = 2

@@ -13,6 +13,7 @@ from contextlib import suppress
 
 from broken import planted
 from sftpv3 import codec
+from sftpv3.faults.between import write
 from sftpv3.probe import features
 
 # The longest packet that the draft (section 3) asks each server to take, and how many handles may be open of few.
@@ -33,7 +34,7 @@ class Usual:
 
     def pass_on(self, packet):
         """The reply of the server behind this one."""
-        planted.write(self.server.stdin.fileno(), packet)
+        write(self.server.stdin.fileno(), packet)
         return next(self.replies)
 
     def version(self, packet):
@@ -49,7 +50,7 @@ class Usual:
         return packet
 
     def write(self, packet):
-        planted.write(1, packet)
+        write(1, packet)
 
     def end(self):
         """What is done once the input has ended, before the server behind it ends."""

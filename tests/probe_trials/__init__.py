@@ -8,5 +8,6 @@ words    bad usage, and files that cannot be read or would be lost
 ends     signals, a terminal that goes away, --patience and --budget
 failing  what fails on the side of the probe: the system, its outputs, itself
 first    --quick, --known, --last-failed, --max-kinds, and what a server keeps that nothing needs
+looked   --checks, in all reports, and how far sessions reached
 inner    modules of the probe, called without a run; and that --jobs changes no report
 """

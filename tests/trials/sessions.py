@@ -1,8 +1,8 @@
 """The client's end of a session: what it sends to a server, and the packets that come."""
 import os
 
-from broken.planted import write
 from sftpv3 import codec
+from sftpv3.faults.between import write
 
 
 def receive(source, count):

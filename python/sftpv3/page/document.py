@@ -96,6 +96,9 @@ class Run:
     differences: List[differing.Difference] = field(default_factory=list)
     # Whether each seed was judged: only then is a run without differences accepted.
     is_whole: bool = True
+    # What was looked at: for each check its name, the sections, how often it ran, passed and failed, what it is, and by
+    # which option it was left out.
+    checks: List[List[object]] = field(default_factory=list)
 
 
 def page_of_run(run):
@@ -107,7 +110,16 @@ def page_of_run(run):
                  *(entry(number, one) for number, one in enumerate(run.differences, 1)), "</ol></nav>",
                  key()]
     body += [differing.html(f"d{number}", one) for number, one in enumerate(run.differences, 1)]
+    body += [checks(run.checks)] if run.checks else []
     return page(f"{run.title}: {run.summary}", "\n".join([*body, "</main>"]))
+
+
+def checks(rows):
+    """A table of what was looked at."""
+    heads = ("Check", "Sections", "Ran", "Passed", "Failed", "What it is", "Left out by")
+    return ('<section class="figures"><h2>Checks</h2>' + figures.table(
+        "What was looked at, with the sections of the draft, and in how many sessions", heads,
+        [tuple(map(str, row)) for row in rows]) + "</section>")
 
 
 def entry(number, difference):

@@ -1,6 +1,7 @@
 """Scenes for what people get wrong who write a server: READs through a buffer, listings that go on by index, and what
 is at the edges of blocks. Each has names of its own, as those of transfers.py have."""
 from sftpv3.probe.dating import owner
+from sftpv3.probe.plans import with_count
 from sftpv3.probe.renewals import filled
 from sftpv3.probe.transfers import CREAT, EXCL, NAMES_AT_ONCE, READ, TRUNC, WRITE
 
@@ -42,6 +43,7 @@ def paging_of(count):
     """A scene with a directory of so many names that loses every fourth of them, gives every fourth another name and
     gets some more, in front and at the end, while two listings of it go on; and one that is begun then."""
     def paging(p):
+        """A directory of many names that loses some, gives some another name and gets some while it is listed."""
         if not p.has_room(count + 20):
             return
         top = p.blank(b"page")
@@ -66,7 +68,7 @@ def paging_of(count):
             for _ in range(count // NAMES_AT_ONCE + 2):
                 yield p.ask("READDIR", one.opened())
             yield p.ask("CLOSE", one.opened())
-    return paging
+    return with_count(paging, count)
 
 
 def at_edges(p):

@@ -61,8 +61,15 @@ ALSO = BEYOND | {TOGETHER}
 NAME_LIMIT, PATH_LIMIT = 255, 4096
 
 
+# Requests without a path and without attributes.
+PLAIN = {"CLOSE", "READ", "WRITE", "FSTAT", "READDIR", "FSYNC"}
+
+
 def of_request(name, fields):
     """The features that a request has by itself."""
+    if name in PLAIN:
+        found = {"huge"} if any(isinstance(value, int) and value >= 2 ** 31 for value in fields) else set()
+        return found | {"long-read"} if name == "READ" and fields[2] > 32768 else found
     paths = [value for value in fields if isinstance(value, bytes)] if name not in ("WRITE", "EXTENDED") else []
     given = next((value for value in fields if isinstance(value, dict)), {})
     numbers = [value for value in fields if isinstance(value, int)] + [given.get("size", 0)]
@@ -74,7 +81,6 @@ def of_request(name, fields):
         "owner": "owner" in given,
         "large-owner": max(given.get("owner", (0,))) > 65535,
         "huge": name != "OPEN" and any(number >= 2 ** 31 for number in numbers),
-        "long-read": name == "READ" and fields[2] > 32768,
         "long-target": name == "SYMLINK" and len(fields[0]) < PATH_LIMIT and longest_name(fields[0]) > NAME_LIMIT,
         "sticky": bool(given.get("permissions", 0) & 0o1000),
         "times": "times" in given,

@@ -61,6 +61,8 @@ class Group:
         self.leader, self.followers = None, []
         # what reports.keep gives: the folder, and the lines of the session
         self.kept = None
+        # the models of faults that it is like, a `likeness.Likeness`, or None where it was not compared
+        self.likeness = None
 
     def fail(self):
         """Says that it was not shrunk since the run failed."""
@@ -100,7 +102,8 @@ class Group:
         return f"{self.request}: {self.found}"
 
     def text(self):
-        lines = [f"request: {self.request}", f"causes: {', '.join(self.causes) or 'none'}",
+        lines = self.likeness.lines() if self.likeness else []
+        lines += [f"request: {self.request}", f"causes: {', '.join(self.causes) or 'none'}",
                  f"expected: {self.expected}", f"found: {self.found}"]
         lines += [f"allowed by: {self.allowed}"] if self.allowed else []
         lines += [f"accepted with: {' or '.join(self.accepted_with)}"] if self.accepted_with else []

@@ -15,11 +15,12 @@ FIELDS = ("request", "causes", "expected", "found")
 
 
 def key_in(line):
-    """The kind that a line of a report tells, or None if it is of a seed. Raises ValueError if it is neither."""
+    """The kind that a line of a report tells, or None if it is of a seed or of what was looked at. Raises ValueError if
+    it is neither."""
     told = json.loads(line)
     if not isinstance(told, dict):
         raise ValueError(line)
-    if "seed" in told:
+    if told.keys() & {"seed", "check", "reached"}:
         return None
     values = [told.get(name) for name in FIELDS]
     if not isinstance(values[1], list) or not all(isinstance(it, str) for it in (*values[1], *values[:1], *values[2:])):

@@ -210,6 +210,10 @@ def last_words(model, numbers):
         yield [ask("SETSTAT", path(files[-1]), TIMES)] if len(files) > 1 else []
 
 
+# The name of what these steps look at, and what that is.
+SCENE, TEXT = "lasting", "What a session left is there once the server was started again."
+
+
 def lasting(steps, tree, skip=frozenset()):
     """These steps, and behind them those that look, once the server was started again, at what they leave."""
     skip = set(skip)

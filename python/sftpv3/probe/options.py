@@ -117,10 +117,13 @@ def processors():
 
 
 def jobs(given):
-    """How many servers run side by side: one for each processor, if each starts from a tree file of its own."""
+    """How many servers run side by side: one for each processor, if each starts from a tree file or in a folder of its
+    own, which --reset then fills."""
     if given.jobs:
         return given.jobs
-    alone = given.reset or not any("{tree}" in word for word in given.command)
+    has_folder = any("{folder}" in word for word in given.command)
+    alone = not (has_folder and "{folder}" in given.reset if given.reset else has_folder or
+                 any("{tree}" in word for word in given.command))
     return 1 if alone else max(1, processors() // given.clients) if given.clients else processors()
 
 
@@ -205,16 +208,20 @@ def add_of_plans(add):
 def add_of_run(add):
     add("--reset", metavar="COMMAND", help="a shell command to run before each session")
     add("--jobs", metavar="N", type=side_by_side,
-        help="servers side by side (as many as processors; 1 with --reset, or if the command has no {tree})")
+        help="servers side by side (as many as processors; 1 where sessions may share files: without {tree} or "
+             "{folder} in the command, or with --reset and without {folder} in both)")
     add("--timeout", metavar="S", type=seconds, default=servers.TIMEOUT,
         help=f"seconds to wait for a reply ({servers.TIMEOUT}), and {servers.OPENING} times as long for VERSION")
     add("--patience", metavar="S", type=seconds, help="seconds after which no more is played (no limit)")
     add("--budget", metavar="S", type=pause, default=shrinking.BUDGET,
-        help=f"seconds to shrink all differences ({shrinking.BUDGET}); 0: shrink none")
+        help=f"seconds to shrink all differences, and as many to compare them with models of faults "
+             f"({shrinking.BUDGET}); 0: neither")
     add("--first", action="store_true", help="play no more seeds once there is a difference")
     add("--max-kinds", metavar="N", type=positive, help="play no more seeds once there are N kinds of difference")
     add("--quick", action="store_true",
         help="a first run, of at most a minute: plain requests alone, each kind of difference shrunk and shown at once")
+    add("--checks", action="store_true",
+        help="list the scenes of the plans: how often each ran and how it went, or what left it out; in a report, too")
     add("--known", metavar="FILE",
         help="a report in JSON lines: its kinds of difference are expected, and only counted")
     add("--last-failed", action="store_true", help="play the seeds that differed in the last run with this --keep")
@@ -277,7 +284,8 @@ def check_clients(found, given):
     """Refuses what --clients has no use for."""
     for option, value in (("--look-first", given.look_first), ("--session", given.session), ("--also", given.also),
                           ("--in-flight", given.in_flight), ("--quick", given.quick), ("--known", given.known),
-                          ("--last-failed", given.last_failed), ("--max-kinds", given.max_kinds)):
+                          ("--last-failed", given.last_failed), ("--max-kinds", given.max_kinds),
+                          ("--checks", given.checks)):
         if value:
             found.error(f"--clients excludes {option}")
     if given.report and given.report.endswith((".html", ".htm")):

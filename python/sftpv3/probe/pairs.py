@@ -5,17 +5,17 @@ from sftpv3.probe.transfers import APPEND, CREAT, READ, TRUNC, WRITE, listing
 
 
 def side_by_side(p):
-    """Each pair whose feature is not left out, in any order."""
+    """Pairs of requests of which the second depends on the one just before it, in any order."""
     yield from each_of(p, PAIRS)
 
 
 def of_places(p):
-    """The same of those in which something is taken from a place, or put there."""
+    """Pairs of requests of which one takes something from a place, or puts it there, and the other goes there."""
     yield from each_of(p, OF_PLACES)
 
 
 def of_names(p):
-    """The same of those in which names are made, and then listed, or taken for others."""
+    """Pairs of requests of which the first makes a name, and the second lists it, or takes it for another."""
     yield from each_of(p, OF_NAMES)
 
 

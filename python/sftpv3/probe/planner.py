@@ -148,8 +148,10 @@ class Planner:
     """Draws scenes, and mixes their steps. Its numbers are those of the steps, and its names those of what scenes make;
     other planners of the session may take from both, too."""
 
-    def __init__(self, seed, tree, skip=(), numbers=None, named=None):
+    def __init__(self, seed, tree, skip=(), numbers=None, named=None, left_out=None):
         self.random = random.Random(seed)
+        # the features for which scenes were left out, by the names of these
+        self.left_out = {} if left_out is None else left_out
         self.model = Model(tree)
         self.skip = set(skip)
         self.numbers = numbers or itertools.count(1)
@@ -193,9 +195,12 @@ class Planner:
         step = next(scene, None)
         if step is not None:
             step.tags |= features.of_plan(self, step) | known
-        if step is None or step.tags & self.skip:
+        if step is not None and step.tags & self.skip:
+            self.left_out.setdefault(name_of(scene), set()).update(step.tags & self.skip)
             return None
-        apply(self, step)
+        if step is not None:
+            step.scene = name_of(scene)
+            apply(self, step)
         return step
 
     def ask(self, name, *fields, cause=None):
@@ -300,10 +305,23 @@ BEHIND = [("further", crossings.PERIODS), ("dated", dating.PERIODS), ("remaining
           ("deeper", deeper.PERIODS + buffers.PERIODS)]
 
 
-def plan(seed, tree, count, skip=()):
-    """The steps of a session: so many of small scenes, besides those of large ones and of the end."""
+def name_of(scene):
+    """The name of a scene, or of what plays it."""
+    return scene.__name__.replace("_", "-")
+
+
+def scenes():
+    """All scenes by their names, in the order in which plans have them."""
+    rows = [*PERIODS, *(row for _, periods in BEHIND for row in periods), *takeovers.OF_START]
+    found = [*WEIGHTS, *TRANSFERS, *(scene for _, scene, *_ in rows), read_back, all_back]
+    return {name_of(scene): scene for scene in found}
+
+
+def plan(seed, tree, count, skip=(), left_out=None):
+    """The steps of a session: so many of small scenes, besides those of large ones and of the end. `left_out` takes in
+    the features for which scenes are left out, by their names."""
     numbers, named = ids_of(seed), set()
-    small, large, *others = (Planner(word, tree, skip, numbers, named)
+    small, large, *others = (Planner(word, tree, skip, numbers, named, left_out)
                              for word in (seed, f"large {seed}", *(f"{word} {seed}" for word, _ in BEHIND)))
     between, steps = large.large(large_scenes(seed, large.random)), []
     for step in small.small(count):
@@ -383,7 +401,7 @@ MOST_EMPTY = 20
 
 
 def read_back(p):
-    """CLOSE of what is open; then each file that was written, each directory that has other names, and each link."""
+    """What is open is closed; then each file that was written, each directory with other names, and each link."""
     for number in list(p.opened):
         yield p.ask("CLOSE", Handle(number))
     for place in written(p.model):
@@ -400,7 +418,7 @@ MOST_KEPT, KEPT_BYTES, KEPT_NAMES = 10, 100_000, 200
 
 
 def all_back(p):
-    """The same, and what has to be as it was: a request that was refused may have changed it."""
+    """Files and directories that no request was to change: one that was refused may have changed them."""
     yield from read_back(p)
     for place, size in kept(p, p.model.unchanged_files(), KEPT_BYTES):
         yield from reading(p, b"/" + b"/".join(place), size)

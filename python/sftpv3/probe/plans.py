@@ -54,8 +54,8 @@ def opener(handle):
 class Step(codec.Request):
     """A request of a plan. A handle in it is a `Handle`, an `Unlike`, or bytes. Its tags are what `--skip` may name."""
 
-    # Whether it is asked once the server was started again on the files of the session.
-    again = False
+    # Whether it is asked once the server was started again on the files of the session; and the name of its scene.
+    again, scene = False, None
 
     def __init__(self, number, name, fields, cause=None):
         super().__init__(number, name, fields)
@@ -63,6 +63,12 @@ class Step(codec.Request):
 
     def opened(self):
         return Handle(self.number)
+
+
+def with_count(scene, count):
+    """The function of a scene, with so many of what it makes in its name."""
+    scene.__name__ += f"_of_{count}"
+    return scene
 
 
 def steps_of(transcript):

@@ -6,8 +6,8 @@ from sftpv3.probe import features, groups, hints, known, limits, options, report
 from sftpv3.probe.sessions import NotStarted, Stopped
 from sftpv3.system import program
 
-# Seconds for all, and the most to shrink one kind, and to see which options would accept it.
-SECONDS, SHARE, HINTS = 55, 15, 2
+# Seconds for all, and the most to shrink one kind, to see which options would accept it, and what it is like.
+SECONDS, SHARE, HINTS, LIKENESS = 55, 15, 2, 10
 
 # The seeds, of which the first ones have small scenes alone, and the requests of these.
 SEEDS, SMALL, REQUESTS = "1-30", 15, 40
@@ -77,6 +77,7 @@ class Run(runs.Run):
         self.progress.clear()
         with suppress(Stopped):
             hints.put_hints([group], self.auditor, self.tree, self.folder, limits.Until(self.playing, HINTS))
+        self.liken([group], LIKENESS)
         try:
             self.keep(group)
         except OSError as error:
@@ -97,13 +98,14 @@ class Run(runs.Run):
         try:
             known.keep_failed(self.given, self.tally.seeds_that_differ())
             if self.given.report:
-                reports.write(self.given.report, self.given, self.tally, self.found, self.known)
+                reports.write(self.given.report, self, self.found)
         except OSError as error:
             wrong.append(error)
         for advice in self.advice(self.found):
             program.tell(f"probe: {advice}")
         if self.found:
             program.say("")
+        self.print_checks()
         program.say(reports.summary(self.tally, self.found) + known.summary(self.known) + "; without --quick the probe "
                     "looks further")
         if wrong:

@@ -32,12 +32,14 @@ def with_path(p, path, cause, among=None):
 
 
 def bad_flags(p):
+    """OPEN with flags that say nothing, or that no version has."""
     flags = p.random.choice([0, CREAT, READ | TRUNC, READ | EXCL, WRITE | TRUNC, READ | APPEND, READ | CREAT | TRUNC,
                              READ | 64, WRITE | 0x80000000])
     yield p.ask("OPEN", p.path(p.idle_file()), flags, {}, cause="BadFlags")
 
 
 def bad_path(p):
+    """Names and paths that are too long, and empty targets."""
     path = p.random.choice([b"/" + b"l" * 256, b"/x" * 2100, b"/d/" + b"m" * 300 + b"/x"])
     if p.random.random() < 0.2:
         yield p.ask("SYMLINK", p.random.choice([b"", b"/x" * 2100]), p.path(p.free()), cause="BadPath")
@@ -46,6 +48,7 @@ def bad_path(p):
 
 
 def nul_path(p):
+    """A path with a byte of 0."""
     if p.random.random() < 0.1:
         yield p.ask("SYMLINK", b"f\0", p.path(p.free()), cause="BadPath")
     else:
@@ -53,10 +56,12 @@ def nul_path(p):
 
 
 def long_target(p):
+    """A target of a link with a name that is too long."""
     yield p.ask("SYMLINK", b"t" * 300, p.path(p.free()), cause="BadPath")
 
 
 def no_entry(p):
+    """Paths at which nothing is, and paths below them."""
     place = p.free()
     needs = ["OPEN", "LSTAT", "STAT", "SETSTAT", "OPENDIR", "REMOVE", "RMDIR", "READLINK"]
     if p.random.random() < 0.5:
@@ -68,6 +73,7 @@ def no_entry(p):
 
 
 def not_dir(p):
+    """A file that is asked for as a directory, and paths below it."""
     place = p.file()
     if place is None:
         return
@@ -79,6 +85,7 @@ def not_dir(p):
 
 
 def loop(p):
+    """Links that lead round in a ring, and paths through them."""
     rings = [place for place in p.model.of_kind(LINK) if p.model.walk(b"/" + b"/".join(place), True) is None]
     if not rings:
         return
@@ -90,6 +97,7 @@ def loop(p):
 
 
 def exists(p):
+    """Places that are taken, for what makes something there."""
     place = p.path(p.random.choice([p.file, p.directory, p.link])())
     yield p.random.choice([
         p.ask("MKDIR", place, {}, cause="Exists"),
@@ -109,6 +117,7 @@ def excl_dangling(p):
 
 
 def is_dir(p):
+    """A directory that is asked for as a file."""
     place = p.path(p.directory())
     yield p.random.choice([
         p.ask("REMOVE", place, cause="IsDir"),
@@ -119,10 +128,12 @@ def is_dir(p):
 
 
 def not_link(p):
+    """READLINK of a file or of a directory."""
     yield p.ask("READLINK", p.path(p.random.choice([p.file, p.directory])()), cause="NotLink")
 
 
 def not_file(p):
+    """Sizes and further names of what is no file."""
     place = p.path(p.directory())
     yield p.random.choice([
         p.ask("SETSTAT", place, {"size": 0}, cause="NotFile"),
@@ -133,6 +144,7 @@ def not_file(p):
 
 
 def not_empty(p):
+    """RMDIR of a directory with names, and posix-rename onto one."""
     full = [place for place in p.model.of_kind(DIRECTORY) if place and p.model.below(place)]
     others = [place for place in p.model.of_kind(DIRECTORY) if place]
     if not full:
@@ -145,6 +157,7 @@ def not_empty(p):
 
 
 def root(p):
+    """The root, removed, renamed and replaced."""
     path = p.random.choice([b"/", b"//", b"/.", b"/..", b"/d/.."])
     yield p.random.choice([
         p.ask("RMDIR", path, cause="Root"),
@@ -155,6 +168,7 @@ def root(p):
 
 
 def inside(p):
+    """A directory that is to go below itself."""
     inner = [place for place in p.model.of_kind(DIRECTORY) if place]
     if inner:
         place = p.random.choice(inner)
@@ -173,6 +187,7 @@ def by_handle(p, handle, cause, among=None):
 
 
 def bad_handle(p):
+    """Handles that were never given, and those that were closed."""
     # a handle that was closed is tried at most as a name that the server may have given again
     handle = p.random.choice([b"", b"?", b"never opened", b"\xff" * 4, b"h" * 256, b"\xff" * 12])
     if p.closed and p.random.random() < 0.6:
@@ -181,6 +196,7 @@ def bad_handle(p):
 
 
 def wrong_kind(p):
+    """A directory's handle where a file's is meant, and the other way round."""
     kind = p.random.choice([FILE, DIRECTORY])
     handle = p.handle(kind)
     if handle and kind == FILE:
@@ -194,6 +210,7 @@ def wrong_kind(p):
 
 
 def not_open_for(p):
+    """READ through a handle that is open to write alone, and the other way round."""
     handle = p.handle(FILE, READ)
     if handle and not p.opened[handle.step].flags & WRITE:
         yield p.random.choice([p.ask("WRITE", handle, 0, b"no", cause="NotOpenFor"),
@@ -223,5 +240,6 @@ def growing(p, length):
 
 
 def unknown(p):
+    """Extensions that nobody has."""
     name = p.random.choice([b"unheard-of@example.org", b"", b"check-file", b"x" * 300])
     yield p.ask("EXTENDED", name, p.random.choice([b"", b"\0\0\0\1f"]), cause="Unknown")

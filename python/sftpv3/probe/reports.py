@@ -9,6 +9,7 @@ import subprocess
 import sys
 import time
 from contextlib import suppress
+from dataclasses import asdict
 from xml.sax import saxutils
 
 from sftpv3 import codec
@@ -133,16 +134,17 @@ def of_group(number, group):
             "allowed_by": group.allowed, "accepted_with": group.accepted_with, "count": group.count,
             "seeds": group.seeds, "requests": len(group.shortest.steps) if group.shortest else None,
             "kept": group.kept and group.kept[0], "story": group.story(), "verdict": group.first.verdict.kind,
-            "byte": byte and byte.as_dictionary()}
+            "byte": byte and byte.as_dictionary(), "as_if": group.likeness and group.likeness.as_dictionary()}
 
 
-def write_json_lines(name, tally, found, kinds):
+def write_json_lines(name, tally, found, kinds, looked):
     lines = [{"seed": one.seed, "accepted": not one.groups, "differences": [group.title() for group in one.groups],
               "seconds": round(one.seconds, 3)} for one in tally.judged]
     # neither accepted nor refused
     lines += [{"seed": seed, "accepted": None, "skipped": why} for _, seed, why in tally.skipped()]
     lines += [of_group(number, group) for number, group in enumerate(found, 1)]
     lines += known.lines(kinds)
+    lines += [*(one.as_dictionary() for one in looked.all()), {"reached": asdict(looked.reached)}] if looked else []
     files.write_text(name, "".join(json.dumps(clean(line)) + "\n" for line in lines))
 
 
@@ -155,7 +157,7 @@ def clean(value):
     return wording.clean(value) if isinstance(value, str) else value
 
 
-def write_page(name, given, tally, found):
+def write_page(name, given, tally, found, looked):
     """The page of the run."""
     seeds = [(one.seed, [group.number for group in one.groups]) for one in tally.judged]
     differences = [shown_group(number, group, notes_of(group)) for number, group in enumerate(found, 1)]
@@ -167,7 +169,9 @@ def write_page(name, given, tally, found):
              ("requests", f"{tally.requests:,}, {tally.unjudged:,} of which were not judged"),
              ("time", f"{sum(one.seconds for one in tally.played):,.1f} s in all sessions, until "
                       f"{time.strftime('%Y-%m-%d %H:%M:%S', time.gmtime())} UTC")]
-    run = document.Run("sftpv3-probe", summary(tally, found), facts, seeds, differences, not any(tally.skipped()))
+    rows = [[one.name, one.places(), one.ran, one.passed, one.failed, one.text, one.why()] for one in looked.all()] \
+        if looked else []
+    run = document.Run("sftpv3-probe", summary(tally, found), facts, seeds, differences, not any(tally.skipped()), rows)
     document.write(name, document.page_of_run(run))
 
 
@@ -189,14 +193,16 @@ def seeds_in_words(tally):
     return f"{numbers[0]} to {numbers[-1]}" if len(numbers) > 1 else ", ".join(map(str, numbers))
 
 
-def write(name, given, tally, found, kinds):
-    """A page if the name ends in .html, JUnit if it ends in .xml, else JSON lines, with the kinds that are known."""
+def write(name, run, found):
+    """A page if the name ends in .html, JUnit if it ends in .xml, else JSON lines, with the kinds that are known. With
+    --checks it has what was looked at."""
+    looked = run.checks if run.given.checks else None
     if name.endswith((".html", ".htm")):
-        write_page(name, given, tally, found)
+        write_page(name, run.given, run.tally, found, looked)
     elif name.endswith(".xml"):
-        write_junit(name, tally, given.command)
+        write_junit(name, run.tally, run.given.command, looked)
     else:
-        write_json_lines(name, tally, found, kinds)
+        write_json_lines(name, run.tally, found, run.known, looked)
 
 
 def junit_text(value):
@@ -207,14 +213,17 @@ def junit_quoted(value):
     return saxutils.quoteattr(wording.clean(value))
 
 
-def write_junit(name, tally, command):
-    """Writes the cases of what was played."""
+def write_junit(name, tally, command, looked):
+    """Writes the cases of what was played, and of what was looked at, if that is given."""
     cases, failures = [], 0
     for played in tally.judged:
         failures += len(played.groups)
         cases += [junit_case(played, group) for group in played.groups] or \
             [f'  <testcase classname="probe.seed-{played.seed}" name="accepted" time="{played.seconds:.3f}"/>']
     skipped = [junit_skipped(name, why) for name, _, why in tally.skipped()]
+    for one in looked.all() if looked else []:
+        failures += one.failed > 0
+        (cases if one.ran else skipped).append(junit_check(one))
     suite = f'<testsuite name={junit_quoted("sftpv3-probe -- " + shlex.join(command))} ' \
         f'tests="{len(cases) + len(skipped)}" failures="{failures}" errors="0" skipped="{len(skipped)}" ' \
         f'time="{sum(played.seconds for played in tally.played):.3f}">'
@@ -225,6 +234,15 @@ def write_junit(name, tally, command):
 def junit_skipped(name, why):
     return (f'  <testcase classname="probe.{name}" name="not judged" time="0.000">'
             f'<skipped message={junit_quoted(why)}/></testcase>')
+
+
+def junit_check(check):
+    """The case of a scene: it failed if it did in one session."""
+    if not check.ran:
+        return junit_skipped(f"check.{check.name}", check.why() or "no session that was played has it")
+    head = f'  <testcase classname="probe.check" name={junit_quoted(f"{check.name}: {check.text}")} time="0.000"'
+    told = f"failed in {check.failed} of {check.ran} sessions; draft {check.places()}"
+    return f'{head}><failure message={junit_quoted(told)}/></testcase>' if check.failed else f"{head}/>"
 
 
 def junit_name(group):

@@ -9,8 +9,9 @@ from typing import List, Optional
 from sftpv3.codec import trees
 from sftpv3.page import document
 from sftpv3.peer import servers
-from sftpv3.probe import (below, features, groups, hints, known, lacking, lasting, leaks, limits, options, ownfiles,
-                          planner, plans, reports, restarts, sessions, shrinking, starting, together, verdicts)
+from sftpv3.probe import (below, checks, features, groups, hints, known, lacking, lasting, leaks, limits, options,
+                          ownfiles, planner, plans, reports, restarts, sessions, shrinking, starting, together,
+                          verdicts)
 from sftpv3.probe.sessions import NotStarted
 from sftpv3.system import program, progress
 from sftpv3.walk import bounds
@@ -31,6 +32,8 @@ class Outcome:
     not_started: Optional[Exception] = None
     # What the server's VERSION says.
     version: Optional[List[str]] = None
+    # What its sessions looked at.
+    looked: checks.Looked = field(default_factory=checks.Looked)
 
 
 # Why nothing of a session lasts, where that may be how the server is meant to be.
@@ -67,6 +70,7 @@ class Plan:
             self.take(judged.differences)
             self.take(*self.taken_along)
             self.count(number, session, judged)
+            self.outcome.looked.take(self.steps, session, judged)
             if judged.last is None or session.silent() or self.ends_alike(session):
                 break
             self.steps = [step for step in self.steps if step.number != judged.last]
@@ -184,6 +188,7 @@ class Run:
             self.root.look_first(players[0])
         self.playing = limits.Halt(self.until)
         self.groups, self.tally, self.progress = groups.Groups(), limits.Tally(), progress.Progress("probe")
+        self.checks = checks.Checks()
 
     def workers(self, folder, server, auditor):
         """What plays the sessions, one for each that is played at a time."""
@@ -241,7 +246,9 @@ class Run:
 
     def planned(self, seed, skip):
         """The steps of a seed, and those that look, where that can be, at what they leave."""
-        steps = planner.plan(seed, self.tree, self.given.requests or options.REQUESTS, skip)
+        left_out = {}
+        steps = planner.plan(seed, self.tree, self.given.requests or options.REQUESTS, skip, left_out)
+        self.checks.leave_out(left_out)
         if features.TOGETHER in self.given.also:
             steps = together.dealt(steps, seed)
         return lasting.lasting(steps, self.tree, skip) if self.again.is_wanted else steps
@@ -290,6 +297,7 @@ class Run:
                 group.put_behind(others)
         outcome.played.groups = list(dict.fromkeys(group for _, group, _ in found))
         self.tally.version = self.tally.version or outcome.version
+        self.checks.add(outcome.looked)
         if outcome.played.ownerless and not self.tally.ownerless:
             program.tell(reports.NO_OWNERS)
         self.tally.add(outcome.played)
@@ -318,6 +326,14 @@ class Run:
         with suppress(sessions.Stopped):
             hints.put_hints(self.groups.all(), self.auditor, self.tree, self.folder, until)
 
+    def liken(self, found, seconds):
+        """Says of these differences what models of faults they are like, as far as there is time."""
+        # the models are many, and most runs need none
+        from sftpv3.probe import likeness
+        search = likeness.Search(self.program, self.folder, limits.Until(self.until, seconds), self.pool.jobs,
+                                 self.given.symlink == "draft")
+        likeness.put_likeness(found, search, self.tree)
+
     def keep(self, group):
         """Keeps the session of a group."""
         shown = group.shortest or shrinking.Shown(group.steps, self.tree, group.first)
@@ -335,7 +351,7 @@ class Run:
         try:
             known.keep_failed(self.given, self.tally.seeds_that_differ())
             if self.given.report:
-                reports.write(self.given.report, self.given, self.tally, found, self.known)
+                reports.write(self.given.report, self, found)
         except OSError as error:
             wrong.append(error)
         return wrong
@@ -354,9 +370,17 @@ class Run:
         if found or self.tally.left or not self.vain():
             if found:
                 program.say("")
+            self.print_checks()
             program.say(reports.summary(self.tally, found) + known.summary(self.known) + self.again.told())
         if wrong:
             raise wrong[0]
+
+    def print_checks(self):
+        """Prints what was looked at, with --checks, and how far the sessions reached."""
+        for line in self.checks.lines() if self.given.checks else []:
+            program.say(line)
+        if self.tally.sessions:
+            program.say(self.checks.reached.text())
 
     def advice(self, found):
         """What to do otherwise in the next run."""
@@ -374,6 +398,8 @@ class Run:
             self.progress.clear()
             self.shrink()
             self.hint()
+            if self.groups.by_key and self.given.budget:
+                self.liken(self.groups.all(), self.given.budget)
         except Exception as error:  # noqa: BLE001 (what was found is reported first, whatever failed)
             trouble = error
             self.progress.clear()

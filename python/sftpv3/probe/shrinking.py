@@ -19,10 +19,11 @@ SLOWER, SHORTEST = 5, 0.5
 
 
 class Shown:
-    """A session that shows the difference."""
+    """A session that shows the difference: all differences of it, and the ids whose replies were not judged."""
 
-    def __init__(self, steps, tree, difference):
+    def __init__(self, steps, tree, difference, differences=(), unjudged=frozenset()):
         self.steps, self.tree, self.difference = steps, tree, difference
+        self.differences, self.unjudged = differences, unjudged
 
 
 class Budget:
@@ -140,7 +141,7 @@ class Shrinker:
                 return None
             for difference in judged.differences:
                 if groups.key_of(difference) == self.group.key:
-                    self.best = Shown(steps, tree, difference)
+                    self.best = Shown(steps, tree, difference, judged.differences, judged.unjudged_ids)
                     return self.best
             if self.until.is_set():
                 # the audits may have ended before that of the difference

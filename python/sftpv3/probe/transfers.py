@@ -3,7 +3,7 @@ scenes with many names, unusual names, deep paths and many handles. Each scene h
 root, so that no other scene meets them; `p.blank` makes one."""
 from sftpv3 import codec
 from sftpv3.probe.model import DIRECTORY
-from sftpv3.probe.plans import Content
+from sftpv3.probe.plans import Content, with_count
 
 
 READ, WRITE, APPEND, CREAT, TRUNC, EXCL = (
@@ -350,6 +350,7 @@ def making(p, path, first):
 def crowd_of(count):
     """A scene with a directory of so many names, of which some change and go once it was listed."""
     def crowd(p):
+        """A directory of many names, of which some change and go once it was listed."""
         if not p.has_room(count + 20):
             return
         place, first = p.blank(b"crowd"), p.blank(b"first")
@@ -368,7 +369,7 @@ def crowd_of(count):
         yield from listing(p, place, count)
         if count in LOSING:
             yield from losing(p, place, count)
-    return crowd
+    return with_count(crowd, count)
 
 
 # How many keys a store of objects lists at a time: a directory of more names gets another name, too. Its names end so

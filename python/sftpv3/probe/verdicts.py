@@ -153,6 +153,14 @@ class Judged:
 
     def __init__(self):
         self.differences, self.unjudged, self.ownerless, self.last = [], 0, 0, None
+        # the ids of the requests that were not judged
+        self.unjudged_ids = set()
+
+    def leave_out(self, records, gone, request, reply):
+        """Notes the requests that are not judged since these places are left out, or all behind the last ones."""
+        behind = range(max(place or 0 for place in (request, reply)) + 1, len(records)) if gone is None else gone
+        self.unjudged_ids |= {codec.id_of(records[place][1]) for place in behind
+                              if place != request and records[place][0] == codec.CLIENT}
 
     def place(self):
         """The place of the last reply that differs, or of its request."""
@@ -186,8 +194,11 @@ def judge(auditor, tree_file, session, seed=0, stop=None):
         gone = without(records, verdict, request, reply, judged)
         if gone and groups.lacks_owner(judged.differences[-1]):
             gone = ownerless(records, gone, judged)
+        judged.leave_out(records, gone, request, reply)
         places = [] if gone is None else [place for at, place in enumerate(places) if at not in gone]
-    judged.unjudged += sum(session.records[place][0] == b"C" for place in places if place > judged.place())
+    behind = [place for place in places if place > judged.place() and session.records[place][0] == codec.CLIENT]
+    judged.unjudged += len(behind)
+    judged.unjudged_ids |= {codec.id_of(session.records[place][1]) for place in behind}
     judged.differences += of_times(session, seed, auditor.lacks.has_access_times())
     if session.crashed():
         judged.differences.append(of_crash(session, seed))

@@ -2,10 +2,10 @@
 meanwhile, and what is open by two handles."""
 import posixpath
 
-from broken.faulty import (END, FAR, MOVES, Attributes, Fault, Listings, Meets, Refuses, alter, clean, code_of, fault,
-                           opens, refused, refuses, set_to, sets_size, status, top_of, without)
 from sftpv3 import codec
 from sftpv3.codec import APPEND, READ, TRUNC, WRITE
+from sftpv3.faults.kinds import (END, FAR, MOVES, Attributes, Fault, Listings, Meets, Refuses, alter, clean, code_of,
+                                 fault, opens, refused, refuses, set_to, sets_size, status, top_of, without)
 
 open_directory_cannot_be_removed = refuses(
     "RMDIR of a directory that is open fails.",
@@ -21,20 +21,21 @@ def directory_of_open_cannot_be_removed(self, asked):
     return asked.name == "RMDIR" and clean(asked.fields[0]) in still
 
 
-listings_run_out = refuses("OPENDIR fails while 16 directories are open.",
-                           lambda self, asked: asked.name == "OPENDIR" and len(self.openers("OPENDIR")) >= 16)
+listings_run_out = refuses(
+    "OPENDIR fails while {COUNT} directories are open.",
+    lambda self, asked: asked.name == "OPENDIR" and len(self.openers("OPENDIR")) >= self.COUNT, COUNT=16)
 
 
 class listings_leak(Refuses):
-    """OPENDIR fails behind 250 that were done."""
+    """OPENDIR fails behind {COUNT} that were done."""
 
-    done = 0
+    COUNT, done = 250, 0
 
     def answer(self, asked, reply):
         self.done += asked.name == "OPENDIR" and reply[4] == codec.HANDLE
 
     def refuses(self, asked):
-        return asked.name == "OPENDIR" and self.done >= 250
+        return asked.name == "OPENDIR" and self.done >= self.COUNT
 
 
 @alter

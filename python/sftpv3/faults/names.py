@@ -1,23 +1,24 @@
 """Faults of servers in names: lost and doubled ones in listings, changed ones, and paths that are not found."""
 import re
 
-from broken.faulty import (FAILED, MOVES, NOWHERE, Fault, Listings, answer, code_of, fault, leads_to, listed,
-                           listed_given, listed_name, refuses, spelled, status, told_done)
 from sftpv3 import codec
+from sftpv3.faults.kinds import (FAILED, MOVES, NOWHERE, Fault, Listings, answer, code_of, fault, leads_to, listed,
+                                 listed_given, listed_name, refuses, spelled, status, told_done)
 
 name_lost_by_count = listed(
-    "A listing lacks its 500th name.",
-    lambda self, asked, before, items: [item for number, item in enumerate(items, before + 1) if number != 500])
-name_lost_at_end = listed("A listing of more than 40 names lacks the last of each reply.",
-                          lambda self, asked, before, items: items[:-1] if before + len(items) > 40 else items)
-name_lost_by_length = listed_name("A listing lacks names of more than 200 bytes.",
-                                  lambda self, name: name if len(name) <= 200 else None)
+    "A listing lacks its name number {COUNT}.", lambda self, asked, before, items:
+    [item for number, item in enumerate(items, before + 1) if number != self.COUNT], COUNT=500)
+name_lost_at_end = listed("A listing of more than {COUNT} names lacks the last of each reply.",
+                          lambda self, asked, before, items: items[:-1] if before + len(items) > self.COUNT else items,
+                          COUNT=40)
+name_lost_by_length = listed_name("A listing lacks names of more than {LENGTH} bytes.",
+                                  lambda self, name: name if len(name) <= self.LENGTH else None, LENGTH=200)
 name_lost_hidden = listed_name("A listing lacks names that begin with a dot.",
                                lambda self, name: None if name.startswith(b".") and name not in (b".", b"..") else name)
-listing_ends_at_1000 = listed("A listing ends after 1,000 names.",
-                              lambda self, asked, before, items: items[:max(0, 1000 - before)])
-listing_ends_at_4096 = listed("A listing ends after 4,096 names.",
-                              lambda self, asked, before, items: items[:max(0, 4096 - before)])
+listing_ends_at_1000 = listed(
+    "A listing ends after {COUNT} names.", lambda self, asked, before, items:
+    items if before + len(items) <= self.COUNT else items[:max(0, self.COUNT - before)], COUNT=1000)
+listing_ends_at_4096 = listing_ends_at_1000.but(listing_ends_at_1000.__doc__, COUNT=4096)
 
 
 @listed(last=dict)
@@ -29,15 +30,15 @@ def name_twice_between_replies(self, asked, before, items):
 
 
 name_twice_by_count = listed(
-    "The 90th name of a listing is given twice.", lambda self, asked, before, items: [
-        item for number, item in enumerate(items, before + 1) for _ in range(1 + (number == 90))])
+    "Name number {COUNT} of a listing is given twice.", lambda self, asked, before, items: [
+        item for number, item in enumerate(items, before + 1) for _ in range(1 + (number == self.COUNT))], COUNT=90)
 name_with_newline = listed_name("A newline in a name is listed as `?`.", lambda self, name: name.replace(b"\n", b"?"))
 name_not_ascii = listed_name("A byte above 127 in a name of more than six bytes is listed as `?`.",
                              lambda self, name: bytes(63 if byte > 127 and len(name) > 6 else byte for byte in name))
 name_without_blank = listed_name("Blanks at the end of a name are left out in a listing.",
                                  lambda self, name: name.rstrip(b" ") or None)
-listed_size = listed_given("A listing shows the sizes of files modulo 65,536.",
-                           lambda self, given: {**given, "size": given["size"] % 65536})
+listed_size = listed_given("A listing shows the sizes of files modulo {MODULUS}.",
+                           lambda self, given: {**given, "size": given["size"] % self.MODULUS}, MODULUS=65536)
 
 
 @listed
@@ -86,11 +87,11 @@ def empty_listing_fails(self, asked, reply):
         return [status(reply, FAILED)]
 
 
-@refuses(made=int)
+@refuses(made=int, COUNT=900)
 def many_names_cannot_be_made(self, asked):
-    """MKDIR and SYMLINK fail, and do nothing, behind 900 that were done."""
+    """MKDIR and SYMLINK fail, and do nothing, behind {COUNT} that were done."""
     self.made += asked.name in ("MKDIR", "SYMLINK")
-    return asked.name in ("MKDIR", "SYMLINK") and self.made > 900
+    return asked.name in ("MKDIR", "SYMLINK") and self.made > self.COUNT
 
 
 class Links(Fault, links=set):
@@ -132,8 +133,8 @@ removed_link_empties_file = of_link(
     lambda self, asked: [self.another("SETSTAT", asked.fields[0], {"size": 0}), asked], REQUEST="REMOVE")
 
 deep_path_fails = leads_to(
-    "A path of more than 20 names leads nowhere.",
-    lambda self, asked, place, path: NOWHERE if path.count(b"/") > 20 and len(path) < 4096 else path)
+    "A path of more than {COUNT} names leads nowhere.",
+    lambda self, asked, place, path: NOWHERE if path.count(b"/") > self.COUNT and len(path) < 4096 else path, COUNT=20)
 long_name_fails = leads_to(
     "A name of more than 250 bytes is cut there.",
     lambda self, asked, place, path: b"/".join(part[:250] if len(part) < 256 else part for part in path.split(b"/")))

@@ -1,9 +1,10 @@
 """Faults of servers that keep what they knew: attributes, names, targets and bytes that have changed since; and of
 gateways that put off what they do."""
-from broken.faulty import (ABSENT, BLOCK, FAR, LOOKS, MOVES, Asks, Fault, Listings, Meets, Reads, Writes, aim_of, alter,
-                           clean, code_of, data_of, fault, paths_of, refused, seen, sets_size, status, top_of)
 from sftpv3 import codec
 from sftpv3.codec import APPEND, CREAT, EXCL, TRUNC
+from sftpv3.faults.kinds import (ABSENT, BLOCK, FAR, LOOKS, MOVES, Asks, Fault, Listings, Meets, Reads, Writes, aim_of,
+                                 alter, clean, code_of, data_of, fault, paths_of, refused, seen, sets_size, status,
+                                 top_of)
 
 
 @alter(aims=dict, stale=dict)

@@ -1,9 +1,9 @@
 """Faults of servers in what comes together, or in pieces: requests that are done before the one that came just before,
 and requests whose bytes come apart."""
-from broken.faulty import (LOOKS, MOVES, Fault, Overtaking, clean, fault, is_below, opens, overtakes, paths_of, refused,
-                           sets_size, top_of)
 from sftpv3 import codec
 from sftpv3.codec import CREAT, TRUNC
+from sftpv3.faults.kinds import (LOOKS, MOVES, Fault, Overtaking, clean, fault, is_below, opens, overtakes, paths_of,
+                                 refused, sets_size, top_of)
 
 
 class Pair(Overtaking):

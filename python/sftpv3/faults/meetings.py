@@ -1,10 +1,10 @@
 """Faults of servers where requests meet on one place: on what was there before, is taken, absent or a link, and on what
 a request has to leave as it is."""
-from broken.faulty import (ABSENT, DIRECTORY, FAILED, FAR, KIND, LOOKS, MOVES, NOWHERE, Attributes, Fault, Makes, Meets,
-                           aim_of, alter, answer, ask, clean, code_of, fault, flagged, in_flight, leads_to, opens,
-                           refuses, set_to, sets, status, target, top_of, with_names)
 from sftpv3 import codec
 from sftpv3.codec import APPEND, CREAT, EXCL, READ, TRUNC, WRITE
+from sftpv3.faults.kinds import (ABSENT, DIRECTORY, FAILED, FAR, KIND, LOOKS, MOVES, NOWHERE, Attributes, Fault, Makes,
+                                 Meets, aim_of, alter, answer, ask, clean, code_of, fault, flagged, in_flight, leads_to,
+                                 opens, refuses, set_to, sets, status, target, top_of, with_names)
 
 
 @refuses(looked=set)
@@ -22,11 +22,11 @@ def unusual_cannot_be_removed(self, asked):
     return any(byte in b"'\"\n\\*[" for byte in name)
 
 
-@answer
+@answer(LENGTH=16384)
 def long_listing_cut(self, asked, reply):
-    """A reply of a listing that would have more than 16,384 bytes lacks its last names."""
+    """A reply of a listing that would have more than {LENGTH} bytes lacks its last names."""
     items = codec.names_in(reply) if asked.name == "READDIR" and reply[4] == codec.NAME else []
-    while len(reply) > 16384 and items:
+    while len(reply) > self.LENGTH and items:
         items.pop()
         reply = with_names(reply, items)
     return [reply]
@@ -84,15 +84,15 @@ empty_path_leads_nowhere = leads_to(
     HIDDEN_BY=("slash",))
 
 
-@leads_to
+@leads_to(LENGTH=280)
 def long_path_fails(self, asked, place, path):
-    """A path of more than 280 bytes, and less than 1,024, leads nowhere."""
-    is_long = 280 < len(path) < 1024 and all(len(part) < 256 for part in path.split(b"/"))
+    """A path of more than {LENGTH} bytes, and less than 1,024, leads nowhere."""
+    is_long = self.LENGTH < len(path) < 1024 and all(len(part) < 256 for part in path.split(b"/"))
     return NOWHERE if is_long and asked.name != "SYMLINK" else path
 
 
-large_read_fails = refuses("A READ of more than 2^18 bytes fails.",
-                           lambda self, asked: asked.name == "READ" and asked.fields[2] > 2 ** 18)
+large_read_fails = refuses("A READ of more than {LENGTH} bytes fails.",
+                           lambda self, asked: asked.name == "READ" and asked.fields[2] > self.LENGTH, LENGTH=2 ** 18)
 set_size_alone = set_to(
     "SETSTAT and FSETSTAT of a size and more set the size alone.",
     lambda self, asked, given: {"size": given["size"]} if given["size"] < FAR else given, WHAT="size")
@@ -120,7 +120,8 @@ class further_name_set_apart(Meets, Attributes, modes=dict):
         return given if mode is None else {**given, "permissions": mode}
 
 
-target_cut = target("READLINK gives at most 255 bytes.", lambda self, asked, target: target[:255])
+target_cut = target("READLINK gives at most {LENGTH} bytes.", lambda self, asked, target:
+                    target if len(target) <= self.LENGTH else target[:self.LENGTH], LENGTH=255)
 target_not_ascii = target(
     "READLINK gives `?` for a byte above 127 of a target of more than ten bytes.",
     lambda self, asked, target: bytes(63 if byte > 127 and len(target) > 10 else byte for byte in target))

@@ -2,12 +2,12 @@
 write replies carelessly."""
 import posixpath
 
-from broken.faulty import (DIRECTORY, END, FAILED, FAR, FILE, KIND, LINK, LOOKS, OK_STATUS, Asks, Fault, Listings,
-                           Makes, Refuses, Settings, Targets, after, alter_now, answer, ask, ask_now, clean, code,
-                           code_of, flagged, leads_to, listed_name, opens, refused, refuses, set_to, sets, shown,
-                           status, target, top_of, with_names)
 from sftpv3 import codec
 from sftpv3.codec import APPEND, CREAT, EXCL, READ, WRITE
+from sftpv3.faults.kinds import (DIRECTORY, END, FAILED, FAR, FILE, KIND, LINK, LOOKS, OK_STATUS, Asks, Fault, Listings,
+                                 Makes, Refuses, Settings, Targets, after, alter_now, answer, ask, ask_now, clean, code,
+                                 code_of, flagged, leads_to, listed_name, opens, refused, refuses, set_to, sets, shown,
+                                 status, target, top_of, with_names)
 
 
 class listed_link_is_its_aim(Asks, Listings, aims=dict):

@@ -1,20 +1,18 @@
-"""What the faults of faults.py are made of: a stand-in for the server that knows what was asked and what is open, and
+"""What the faults of models.py are made of: a stand-in for the server that knows what was asked and what is open, and
 changes one thing in what passes.
 
 A fault is a sentence that says what goes wrong, and a function in the place of a method of a class below: `fault` in
-planted.py says how to write one, and the makers at the end name the methods. One that overrides more is a class.
+between.py says how to write one, and the makers at the end name the methods. One that overrides more is a class.
 
 A fault of the server that no reply shows by itself, such as a lost WRITE, is made by asking the sound server for
 something else: an empty WRITE is answered with OK, and changes nothing.
 """
-import os
 import posixpath
 import queue
-import struct
 
-from broken import planted
-from broken.planted import fault
 from sftpv3 import codec
+from sftpv3.faults import between
+from sftpv3.faults.between import fault
 
 OK_STATUS, END, ABSENT, FAILED = (code.to_bytes(4, "big") for code in (
     codec.OK, codec.EOF, codec.NO_SUCH_FILE, codec.FAILURE))
@@ -32,7 +30,7 @@ NOWHERE = b"/absent/absent"
 OWN_IDS = 0xF0000000
 
 
-class Fault(planted.Bug, asked=dict, opened=dict, lengths=dict, counts=dict, unseen=set):
+class Fault(between.Bug, asked=dict, opened=dict, lengths=dict, counts=dict, unseen=set):
     """A server with one fault. A fault overrides `alter`, `ask` or `answer`, or what a class below leaves to it.
 
     It keeps requests by their ids, and those that opened what is open, by its handle; how far a path's file was
@@ -164,7 +162,7 @@ class Asks(Fault, waits=dict):
         """The reply to a request of its own."""
         asked = self.another(name, *fields)
         wait = self.waits[asked.number] = queue.SimpleQueue()
-        planted.write(self.pipe, codec.encode(asked))
+        between.write(self.pipe, codec.encode(asked))
         return wait.get(timeout=self.PATIENCE)
 
     def attributes_now(self, name, path_or_handle):
@@ -522,27 +520,6 @@ class Refuses(Fault):
 
     def refuses(self, _asked):
         return False
-
-
-class SmallRoom(Fault):
-    """No fault: VERSION has limits@openssh.com, with less than most servers take; whoever asks for more is cut off."""
-
-    LIMITS = (20000, 9000, 10000, 30)
-
-    def opening(self, packet):
-        number, pairs = codec.version_of(packet)
-        return codec.version(number, pairs + [(b"limits@openssh.com", b"1")])
-
-    def ask(self, asked):
-        if asked.name == "READ" and asked.fields[2] > self.LIMITS[1] \
-                or asked.name == "WRITE" and len(asked.fields[2]) > self.LIMITS[2] \
-                or asked.name in ("OPEN", "OPENDIR") and len(self.opened) >= self.LIMITS[3]:
-            os._exit(9)
-
-    def answer(self, asked, reply):
-        if asked.name == "EXTENDED" and asked.fields[0] == b"limits@openssh.com":
-            return [codec.packet(codec.EXTENDED_REPLY, reply[5:9] + struct.pack(">4Q", *self.LIMITS))]
-        return None
 
 
 class Statuses(Fault):

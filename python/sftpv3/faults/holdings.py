@@ -2,17 +2,17 @@
 takes away, what a second handle sees, logs, targets of links, and bytes that two files share."""
 import re
 
-from broken.faulty import (DIRECTORY, END, FAR, FILE, KIND, LINK, LOOKS, MOVES, After, Asks, Fault, alter, alter_now,
-                           ask_now, attributes_of, clean, data_of, fault, flagged, is_below, loses, opens, paths_of,
-                           refuses, refuses_now, set_to, sets, sets_size, shown, status, with_attributes, with_data,
-                           without, written_data)
-from broken.faulty_contents import is_text
-from broken.faulty_places import beside
-from broken.faulty_stores import of_made
-from broken.faulty_takeovers import is_of_one_place
-from broken.faulty_times import TIMES, Touching, times_set, touches
 from sftpv3 import codec
 from sftpv3.codec import APPEND, CREAT, EXCL, READ, TRUNC, WRITE
+from sftpv3.faults.contents import is_text
+from sftpv3.faults.kinds import (DIRECTORY, END, FAR, FILE, KIND, LINK, LOOKS, MOVES, After, Asks, Fault, alter,
+                                 alter_now, ask_now, attributes_of, clean, data_of, fault, flagged, is_below, loses,
+                                 opens, paths_of, refuses, refuses_now, set_to, sets, sets_size, shown, status,
+                                 with_attributes, with_data, without, written_data)
+from sftpv3.faults.places import beside
+from sftpv3.faults.stores import of_made
+from sftpv3.faults.takeovers import is_of_one_place
+from sftpv3.faults.times import TIMES, Touching, times_set, touches
 
 # The user and the group of the server.
 SERVER = {"owner": (0, 0)}
@@ -275,8 +275,8 @@ def alike_by_front(self, offset, data):
     return data if offset or len(data) < 1000 else self.known.setdefault((len(data), data[:512]), data)
 
 
-ones_lost = loses("A WRITE of 512 bytes or more, all of them 255, is lost.",
-                  lambda self, asked, offset, data: len(data) >= 512 and not data.strip(b"\xff"))
+ones_lost = loses("A WRITE of {LENGTH} bytes or more, all of them 255, is lost.",
+                  lambda self, asked, offset, data: len(data) >= self.LENGTH and not data.strip(b"\xff"), LENGTH=512)
 blanks_at_line_ends_lost = shown(
     "In DATA that is text, blanks before a newline are left out.",
     lambda self, asked, offset, data: re.sub(rb" +\n", b"\n", data) if is_text(data) else data)

@@ -2,12 +2,13 @@
 or block their path, what was seen before or by another path, names and attributes that are taken for others."""
 import posixpath
 
-from broken.faulty import (DIRECTORY, FAILED, FILE, KIND, LINK, LOOKS, MOVES, NOWHERE, After, Asks, Fault, Listings,
-                           Refuses, alter_now, ask, clean, code_of, fault, is_below, listed_name, opens, paths_of,
-                           refused, refuses, set_to, sets, spelled, status, top_of, with_attributes, without)
-from broken.faulty_stores import Made, of_made
 from sftpv3 import codec
 from sftpv3.codec import CREAT
+from sftpv3.faults.kinds import (DIRECTORY, FAILED, FILE, KIND, LINK, LOOKS, MOVES, NOWHERE, After, Asks, Fault,
+                                 Listings, Refuses, alter_now, ask, clean, code_of, fault, is_below, listed_name, opens,
+                                 paths_of, refused, refuses, set_to, sets, spelled, status, top_of, with_attributes,
+                                 without)
+from sftpv3.faults.stores import Made, of_made
 
 
 def beside(asked):

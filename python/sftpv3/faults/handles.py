@@ -1,7 +1,7 @@
 """Faults of servers in handles, in counts, in what follows a refused request, and in what a request sets."""
-from broken.faulty import FAR, Refuses, alter, ask_now, code_of, set_to, sets_size, shown, without
-from broken.faulty_writes import write_lost_by_count
 from sftpv3 import codec
+from sftpv3.faults.kinds import FAR, Refuses, alter, ask_now, code_of, set_to, sets_size, shown, without
+from sftpv3.faults.writes import write_lost_by_count
 
 
 @alter
@@ -13,23 +13,24 @@ def longer_handle_works(self, asked):
 
 
 class failed_opens_leak(Refuses):
-    """OPEN fails behind 100 that failed."""
+    """OPEN fails behind {COUNT} that failed."""
 
-    REQUEST, MOST, failed = "OPEN", 100, 0
+    REQUEST, COUNT, failed = "OPEN", 100, 0
 
     def answer(self, asked, reply):
         self.failed += asked.name == self.REQUEST and reply[4] == codec.STATUS
 
     def refuses(self, asked):
-        return asked.name == self.REQUEST and self.failed >= self.MOST
+        return asked.name == self.REQUEST and self.failed >= self.COUNT
 
 
-failed_listings_leak = failed_opens_leak.but("OPENDIR fails behind 60 that failed.", REQUEST="OPENDIR", MOST=60)
+failed_listings_leak = failed_opens_leak.but("OPENDIR fails behind {COUNT} that failed.", REQUEST="OPENDIR", COUNT=60)
 
-write_256_lost = write_lost_by_count.but("The 256th WRITE through a handle is lost.", COUNT=256)
-write_128_lost = write_lost_by_count.but("The 128th WRITE through a handle is lost.", COUNT=128)
-read_256_wrong = shown("The 256th READ through a handle gives bytes of 0.",
-                       lambda self, asked, offset, data: bytes(len(data)) if self.count_through(asked) == 256 else data)
+write_256_lost = write_lost_by_count.but(write_lost_by_count.__doc__, COUNT=256)
+write_128_lost = write_lost_by_count.but(write_lost_by_count.__doc__, COUNT=128)
+read_256_wrong = shown(
+    "READ number {COUNT} through a handle gives bytes of 0.", lambda self, asked, offset, data:
+    bytes(len(data)) if self.count_through(asked) == self.COUNT else data, COUNT=256)
 
 
 class failed_write_stays(Refuses, failing=set):

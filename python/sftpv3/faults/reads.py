@@ -1,15 +1,17 @@
 """Faults of servers in what is read: corruption, cuts, early and late ends, what was read before."""
-from broken.faulty import FAR, OK_STATUS, Moved, Reads, alter, at_end, is_below, shown, status, with_data, with_other
+from sftpv3.faults.kinds import (FAR, OK_STATUS, Moved, Reads, alter, at_end, is_below, shown, status, with_data,
+                                 with_other)
 
 KIB = 1024
 
-read_corrupt_by_offset = shown("DATA that lies behind byte 100,000 has a wrong first byte.",
-                               lambda self, asked, offset, data: with_other(data, 0) if offset >= 100000 else data)
+read_corrupt_by_offset = shown("DATA from byte {OFFSET} on has a wrong first byte.",
+                               lambda self, asked, offset, data: with_other(data, 0) if offset >= self.OFFSET else data,
+                               OFFSET=100000)
 read_corrupt_at_boundary = shown("The byte at 32,768 is wrong.",
                                  lambda self, asked, offset, data: with_other(data, 32 * KIB - offset))
 read_corrupt_by_size = shown(
-    "In DATA of 32,768 bytes or more, the last 512 are 0.",
-    lambda self, asked, offset, data: data if len(data) < 32 * KIB else data[:-512] + bytes(512))
+    "In DATA of {LENGTH} bytes or more, the last 512 are 0.",
+    lambda self, asked, offset, data: data if len(data) < self.LENGTH else data[:-512] + bytes(512), LENGTH=32 * KIB)
 
 
 @shown(count=int)
@@ -20,13 +22,14 @@ def read_corrupt_by_count(self, asked, offset, data):
 
 
 read_lacks_last_byte = shown(
-    "DATA that ends where the file ends, behind 32 KiB, lacks the last byte.",
+    "DATA that ends where the file ends, from byte {OFFSET} on, lacks the last byte.",
     lambda self, asked, offset, data:
-    data[:-1] if offset >= 32 * KIB and 1 < len(data) < min(asked.fields[2], 32 * KIB) else data)
-read_cut = shown("DATA has at most 16,384 bytes, wherever the file ends.",
-                 lambda self, asked, offset, data: data[:16 * KIB])
-read_ends_early = shown("A READ at 2^20 or behind finds the end of the file.",
-                        lambda self, asked, offset, data: None if offset >= 2 ** 20 else data)
+    data[:-1] if offset >= self.OFFSET and 1 < len(data) < min(asked.fields[2], 32 * KIB) else data, OFFSET=32 * KIB)
+read_cut = shown("DATA has at most {LENGTH} bytes, wherever the file ends.",
+                 lambda self, asked, offset, data: data[:self.LENGTH] if len(data) > self.LENGTH else data,
+                 LENGTH=16 * KIB)
+read_ends_early = shown("A READ at {OFFSET} or behind finds the end of the file.",
+                        lambda self, asked, offset, data: None if offset >= self.OFFSET else data, OFFSET=2 ** 20)
 read_ends_at_block = shown(
     "Of a file of which 32,768 bytes were written, a READ that begins in the second half finds the end.",
     lambda self, asked, offset, data: None if self.length(asked) == 32 * KIB and offset >= 16 * KIB else data)
@@ -43,19 +46,21 @@ class read_ends_below_renamed(Moved, Reads):
 
 
 read_behind_end = at_end(
-    "A READ at an offset from 1,000 on that is behind the end gives a byte of 0.",
-    lambda self, asked, reply: with_data(reply, b"\0") if 1000 <= asked.fields[1] < FAR and asked.fields[2] else reply)
-read_empty_at_end = at_end("A READ of 32 KiB or more at the end is answered with DATA of no bytes.",
-                           lambda self, asked, reply: with_data(reply, b"") if asked.fields[2] >= 32 * KIB else reply)
-read_ok_at_end = at_end("A READ of 4 KiB or more at the end is answered with OK.",
-                        lambda self, asked, reply: status(reply, OK_STATUS) if asked.fields[2] >= 4 * KIB else reply)
+    "A READ at an offset from {OFFSET} on that is behind the end gives a byte of 0.", lambda self, asked, reply:
+    with_data(reply, b"\0") if self.OFFSET <= asked.fields[1] < FAR and asked.fields[2] else reply, OFFSET=1000)
+read_empty_at_end = at_end(
+    "A READ of {LENGTH} bytes or more at the end is answered with DATA of no bytes.",
+    lambda self, asked, reply: with_data(reply, b"") if asked.fields[2] >= self.LENGTH else reply, LENGTH=32 * KIB)
+read_ok_at_end = at_end(
+    "A READ of {LENGTH} bytes or more at the end is answered with OK.",
+    lambda self, asked, reply: status(reply, OK_STATUS) if asked.fields[2] >= self.LENGTH else reply, LENGTH=4 * KIB)
 
 
-@alter
+@alter(MODULUS=2 ** 32)
 def read_offset_wraps(self, asked):
-    """The offset of a READ is taken modulo 2^32."""
+    """The offset of a READ is taken modulo {MODULUS}."""
     if asked.name == "READ":
-        asked.fields[1] %= 2 ** 32
+        asked.fields[1] = asked.fields[1] % self.MODULUS
 
 
 @shown(last=dict)
@@ -75,11 +80,11 @@ def read_repeats_block(self, asked, offset, data):
     return before if offset >= 64 * KIB and len(data) >= 32 * KIB == len(before) else data
 
 
-@alter
+@alter(COUNT=30)
 def read_of_other_handle(self, asked):
-    """With more than 30 handles open, a READ through the oldest file goes to the next."""
+    """With more than {COUNT} handles open, a READ through the oldest file goes to the next."""
     files = [handle for handle, opener in list(self.opened.items()) if opener.name == "OPEN"]
-    if asked.name == "READ" and len(files) > 30 and asked.handle() == files[0]:
+    if asked.name == "READ" and len(files) > self.COUNT and asked.handle() == files[0]:
         asked.fields[0] = files[1]
 
 

@@ -1,6 +1,6 @@
 """Faults of servers in the times of files and directories."""
-from broken.faulty import Fault, Settings, alter, ask, fault, listed_given, seen, without
 from sftpv3 import codec
+from sftpv3.faults.kinds import Fault, Settings, alter, ask, fault, listed_given, seen, without
 
 # Another time, as a clock would have it; and the options with which the sound server behind a fault keeps times.
 NOW, TIMES = 1_800_000_001, ("--times",)

@@ -2,13 +2,13 @@
 emptied, what was seen of a place before, requests that come together, and files that were there at the start."""
 import posixpath
 
-from broken.faulty import (DIRECTORY, FILE, LINK, LOOKS, MOVES, NOWHERE, After, Asks, Fault, Refuses, Statuses,
-                           alter_now, answer, clean, code_of, data_of, fault, is_below, leads_to, listed_name, opens,
-                           paths_of, refuses, top_of, with_attributes, with_data)
-from broken.faulty_places import KnownAbsent, Overlooks, beside, overlooks, remade_directory_is_full
-from broken.faulty_stores import of_made
 from sftpv3 import codec
 from sftpv3.codec import CREAT, EXCL, READ, TRUNC, WRITE
+from sftpv3.faults.kinds import (DIRECTORY, FILE, LINK, LOOKS, MOVES, NOWHERE, After, Asks, Fault, Refuses, Statuses,
+                                 alter_now, answer, clean, code_of, data_of, fault, is_below, leads_to, listed_name,
+                                 opens, paths_of, refuses, top_of, with_attributes, with_data)
+from sftpv3.faults.places import KnownAbsent, Overlooks, beside, overlooks, remade_directory_is_full
+from sftpv3.faults.stores import of_made
 
 
 def is_of_one_place(asked):

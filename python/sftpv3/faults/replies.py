@@ -1,14 +1,14 @@
 """Faults of servers in attributes, codes and handles, and those that only requests in flight together show."""
-from broken.faulty import (END, FAILED, FAR, FILE, KIND, LINK, LOOKS, MOVES, SETS, Attributes, Fault, InFlight, Moved,
-                           alter, answer, ask, code, code_of, data_of, fault, flagged, in_flight, opens, overtakes,
-                           seen, set_to, status, told_done, with_data, without)
 from sftpv3 import codec
 from sftpv3.codec import CREAT, EXCL, READ, TRUNC
+from sftpv3.faults.kinds import (END, FAILED, FAR, FILE, KIND, LINK, LOOKS, MOVES, SETS, Attributes, Fault, InFlight,
+                                 Moved, alter, answer, ask, code, code_of, data_of, fault, flagged, in_flight, opens,
+                                 overtakes, seen, set_to, status, told_done, with_data, without)
 
-size_wraps = seen("STAT, LSTAT and FSTAT show sizes modulo 65,536.",
-                  lambda self, asked, given: {**given, "size": given["size"] % 65536})
-size_of_large_file = seen("STAT, LSTAT and FSTAT show at most 2^20 as a size.",
-                          lambda self, asked, given: {**given, "size": min(given["size"], 2 ** 20)})
+size_wraps = seen("STAT, LSTAT and FSTAT show sizes modulo {MODULUS}.",
+                  lambda self, asked, given: {**given, "size": given["size"] % self.MODULUS}, MODULUS=65536)
+size_of_large_file = seen("STAT, LSTAT and FSTAT show at most {SIZE} as a size.",
+                          lambda self, asked, given: {**given, "size": min(given["size"], self.SIZE)}, SIZE=2 ** 20)
 
 
 class size_after_truncation(Attributes):
@@ -72,14 +72,16 @@ link_is_file = seen(
 
 
 class large_write_fails(Fault):
-    """A WRITE of more than 200,000 bytes fails, and is not done."""
+    """A WRITE of more than {LENGTH} bytes fails, and is not done."""
+
+    LENGTH = 200000
 
     def alter(self, asked):
-        if asked.name == "WRITE" and len(asked.fields[2]) > 200000:
+        if asked.name == "WRITE" and len(asked.fields[2]) > self.LENGTH:
             asked.fields[2] = b""
 
     def answer(self, asked, reply):
-        fails = asked.name == "WRITE" and len(asked.fields[2]) > 200000
+        fails = asked.name == "WRITE" and len(asked.fields[2]) > self.LENGTH
         return [status(reply, FAILED)] if fails else None
 
 
@@ -123,17 +125,17 @@ def remove_lost(self, asked):
         return told_done(asked)
 
 
-@ask
+@ask(LENGTH=30)
 def rename_lost(self, asked):
-    """RENAME of a name of more than 30 bytes is told done, and is not."""
-    if asked.name in MOVES and len(asked.fields[0].rpartition(b"/")[2]) > 30:
+    """RENAME of a name of more than {LENGTH} bytes is told done, and is not."""
+    if asked.name in MOVES and len(asked.fields[0].rpartition(b"/")[2]) > self.LENGTH:
         return told_done(asked)
 
 
-@alter
+@alter(COUNT=64)
 def handles_run_out(self, asked):
-    """OPEN fails while 64 handles are open."""
-    if asked.name == "OPEN" and len(self.opened) >= 64:
+    """OPEN fails while {COUNT} handles are open."""
+    if asked.name == "OPEN" and len(self.opened) >= self.COUNT:
         asked.fields[:2] = [b"/", READ]
 
 
@@ -151,10 +153,10 @@ class handle_given_twice(Fault):
         return [codec.packet(codec.HANDLE, reply[5:9] + codec.string(before))]
 
 
-@ask
+@ask(COUNT=20)
 def close_closes_other(self, asked):
-    """CLOSE of a handle also closes the file that was opened before it, if more than 20 are open."""
-    if asked.name == "CLOSE" and len(self.opened) > 20:
+    """CLOSE of a handle also closes the file that was opened before it, if more than {COUNT} are open."""
+    if asked.name == "CLOSE" and len(self.opened) > self.COUNT:
         return [asked, self.another("CLOSE", list(self.opened)[-1])]
 
 

@@ -1,10 +1,8 @@
 """Faults that people make: READs through a buffer that others' changes do not reach, listings that are begun anew and
-go on by index, whole directories in one packet, and what is taken and never given back."""
-import os
-
-from broken.faulty import BLOCK, FAR, SETS, Asks, Fault, Writes, clean, data_of, refused, with_data, with_names
+go on by index, and whole directories in one packet."""
 from sftpv3 import codec
 from sftpv3.codec import TRUNC
+from sftpv3.faults.kinds import BLOCK, FAR, SETS, Asks, Fault, Writes, clean, data_of, refused, with_data, with_names
 
 
 class Buffered(Asks, buffers=dict):
@@ -116,34 +114,6 @@ def paged(size):
 paged_by_17, paged_by_64, paged_by_100, paged_by_128 = map(paged, (17, 64, 100, 128))
 whole_directory_at_once = Paged.but("The first READDIR of more than 400 names gives all of them in one packet.",
                                     PAGE=ALL, LEAST=400)
-
-
-class Taken(Fault, taken=list):
-    """What is taken for each request of a name is never given back. Where there is none left, the request fails."""
-
-    NAME = "OPENDIR"
-
-    def ask(self, asked):
-        if asked.name == self.NAME:
-            try:
-                self.taken.append(self.take())
-            except OSError:
-                return refused(asked)
-        return None
-
-    def take(self):
-        return os.open(os.devnull, os.O_RDONLY)
-
-
-descriptor_leaks_by_listing = Taken.but("Each OPENDIR takes a descriptor that nothing gives back.")
-descriptor_leaks_by_file = Taken.but("Each OPEN takes a descriptor that nothing gives back.", NAME="OPEN")
-
-
-class MemoryLeaks(Taken):
-    """Each OPENDIR takes 4 MiB of memory that nothing gives back: no difference, but it is told."""
-
-    def take(self):
-        return os.urandom(1 << 22)
 
 
 class group_alone_lost(Asks):

@@ -1,9 +1,9 @@
 """Faults that the source of a real server can have, and that no plan asked for before the scenes of deeper.py: requests
 through a handle that use its old path, what is set where nothing is, the sticky bit, and links that are replaced."""
-from broken.faulty import LINK, Asks, Fault, Listings, clean, code, fault, refuses, set_to, sets
-from broken.faulty_times import TIMES
 from sftpv3 import codec
 from sftpv3.codec import EXCL, TRUNC
+from sftpv3.faults.kinds import LINK, Asks, Fault, Listings, clean, code, fault, refuses, set_to, sets
+from sftpv3.faults.times import TIMES
 
 STICKY = 0o1000
 

@@ -3,9 +3,9 @@ of the same size, and whole files that CLOSE puts back."""
 import gzip
 from contextlib import suppress
 
-from broken.faulty import FILE, Asks, Reads, clean, opens, sets_size, shown, with_data, written, written_data
 from sftpv3 import codec
 from sftpv3.codec import APPEND, READ, TRUNC
+from sftpv3.faults.kinds import FILE, Asks, Reads, clean, opens, sets_size, shown, with_data, written, written_data
 
 TEXT = bytes(range(32, 127)) + b"\n\r\t"
 BLOCK = 4096

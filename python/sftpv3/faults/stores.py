@@ -3,9 +3,9 @@ than others: directories that are no more than names, names that are alike, copi
 import posixpath
 import unicodedata
 
-from broken.faulty import (MOVES, NOWHERE, Fault, aim_of, alter, alter_now, clean, fault, is_below, leads_to, paths_of,
-                           refused, refuses, spelled, top_of)
 from sftpv3.codec import CREAT, READ
+from sftpv3.faults.kinds import (MOVES, NOWHERE, Fault, aim_of, alter, alter_now, clean, fault, is_below, leads_to,
+                                 paths_of, refused, refuses, spelled, top_of)
 
 
 class Made(Fault, made=dict):
