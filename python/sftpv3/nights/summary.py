@@ -10,7 +10,8 @@ from sftpv3.nights.records import BLOCK
 
 # What is known of the folders: they are as the sessions left them, or but for open places; something else changed them;
 # the first tree was made of them; they were not compared.
-SAME, SAME_IN_PART, CHANGED, BEGUN, NOT_COMPARED = "same", "same but for open places", "changed", "begun", "not compared"
+SAME, SAME_IN_PART, CHANGED = "same", "same but for open places", "changed"
+BEGUN, NOT_COMPARED = "begun", "not compared"
 CAUSE_UNKNOWN = "not told"
 
 
