@@ -50,7 +50,8 @@ def wrong_replies(steps, place):
     status, said = place.nightly()
     steps.check("a wrong byte is found", status == 1 and said.count(": refused ") == 1 and
                 "NotAllowed" in said and "expected: DATA" in said, said)
-    steps.check("what comes behind it is judged", said.count(": accepted ") == 2 and "requests but for" not in said, said)
+    steps.check("what comes behind it is judged", said.count(": accepted ") == 2 and
+                "requests but for" not in said, said)
     steps.check("records and verdict are kept apart", [len(place.kept(it)) for it in
                 ("accepted", "refused", "unjudged")] == [2, 2, 0], said)
     place.write_record("20200101T000000Z", b"SFTPTR01C\0\0", ended=1)

@@ -41,7 +41,7 @@ def mixed(steps, place):
     steps.check("JSON has the counts, and the refusals by their causes", (
         found["user"], found["status"], found["sessions"], found["accepted"], found["refused"], found["not_judged"],
         found["waiting"], found["folders"], found["spool_bytes"]) == (
-            USER, 1, 2, 1, {"changed locally": 1}, 0, 0, "begun", 0), found)
+            USER, 1, 2, 1, {"changed locally": 1}, 0, 0, "same but for open places", 0), found)
     steps.check("and the age of the comparison, and the bytes that are kept", 0 <= found["comparison_age_seconds"] < 60
                 and found["state_bytes"] >= 4096, found)
     read, user = read_metrics(metrics), f'user="{USER}"'

@@ -20,7 +20,7 @@ from sftpv3.nights.parts import Part, reach_of
 from sftpv3.nights.records import MOST, NEW, Failed, Gone, NotTaken, Numbers, Spools
 from sftpv3.nights.running import run
 from sftpv3.nights.spans import groups, span_of
-from sftpv3.nights.summary import BEGUN, CAUSE_UNKNOWN, CHANGED, bytes_on_disk
+from sftpv3.nights.summary import BEGUN, CAUSE_UNKNOWN, CHANGED, SAME_IN_PART, bytes_on_disk
 from sftpv3.nights.summary import SAME as SAME_FOLDERS
 from sftpv3.system import children, naming, program, ways
 
@@ -455,6 +455,7 @@ class Night:
             raise Failed(f"sftpv3 diff ended with status {found.status}: {' '.join(found.lines())}")
         self.summary.folders = CHANGED if found.status else SAME_FOLDERS
         if found.status == 0:
+            self.summary.folders = SAME_IN_PART if behind.open.places else SAME_FOLDERS
             but = f", but for {behind.named_open()}" if behind.open.places else ""
             self.say(f"{self.counted()}; the folder is as they left it{but}", int(bool(but)))
             return

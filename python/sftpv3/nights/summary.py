@@ -8,9 +8,10 @@ from typing import Dict, Iterable, List, NamedTuple, Optional, Tuple
 from sftpv3.codec import wording
 from sftpv3.nights.records import BLOCK
 
-# What is known of the folders: they are as the sessions left them; something else changed them; the first tree was made
-# of them, or a new one behind a refusal; they were not compared.
-SAME, CHANGED, BEGUN, NOT_COMPARED = "same", "changed", "begun", "not compared"
+# What is known of the folders: they are as the sessions left them, or but for open places; something else changed them;
+# the first tree was made of them; they were not compared.
+SAME, SAME_IN_PART, CHANGED = "same", "same but for open places", "changed"
+BEGUN, NOT_COMPARED = "begun", "not compared"
 CAUSE_UNKNOWN = "not told"
 
 
