@@ -14,8 +14,8 @@ import time
 from texts import TOP
 
 # The scripts with texts of their own.
-SCRIPTS = ("sftpv3-audits", "sftpv3-import-log", "sftpv3-nightly", "sftpv3-page", "sftpv3-probe", "sftpv3-record",
-           "sftpv3-recordd", "sftpv3-serve", "sftpv3-together", "sftpv3-tree", "sftpv3-walk")
+SCRIPTS = ("sftpv3-audits", "sftpv3-fault", "sftpv3-import-log", "sftpv3-nightly", "sftpv3-page", "sftpv3-probe",
+           "sftpv3-record", "sftpv3-recordd", "sftpv3-serve", "sftpv3-together", "sftpv3-tree", "sftpv3-walk")
 # What reads a part of what is installed, and which part that is.
 TOOLS = {"mandoc": "manual pages", "bash": "completions of bash", "zsh": "completions of zsh",
          "dpkg-deb": "the Debian package", "lintian": "what is wrong with the Debian package"}

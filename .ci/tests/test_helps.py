@@ -14,8 +14,8 @@ from pathlib import Path
 TOP = Path(__file__).resolve().parents[2]
 
 # The commands that are installed.
-COMMANDS = ("audits", "import-log", "nightly", "page", "probe", "record", "recordd", "serve", "together", "tree",
-            "walk")
+COMMANDS = ("audits", "fault", "import-log", "nightly", "page", "probe", "record", "recordd", "serve", "together",
+            "tree", "walk")
 
 # Seconds in which a script has to say what it is for, however busy the machine is.
 LONG = 1800
@@ -145,6 +145,7 @@ runpy.run_path(".ci/pages", run_name="__main__")
 # What each of these cannot do, and its status then.
 FAILING = {
     "audits": (3, ["--tree", "ROOM/nowhere", "ROOM/nowhere"]),
+    "fault": (127, ["--", "ROOM/nowhere"]),
     "import-log": (3, ["ROOM/nowhere"]),
     "nightly": (3, ["--records", "ROOM/nowhere", "--state", "ROOM/state", "root", "ROOM"]),
     "page": (2, ["examples/letters.tree", "-o", "ROOM/page.html"]),

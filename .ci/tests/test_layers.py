@@ -14,8 +14,8 @@ from crates import TOP
 sys.dont_write_bytecode = True
 PACKAGE = "sftpv3"
 # From the lowest on.
-LAYERS = ("codec", "system", "spool", "recorder", "nights", "serve", "tree", "together", "audits", "logs", "peer",
-          "faults", "page", "walk", "probe", "servers", "commands")
+LAYERS = ("codec", "system", "spool", "recorder", "nights", "serve", "proxy", "tree", "together", "audits", "logs",
+          "peer", "faults", "page", "walk", "probe", "servers", "commands")
 
 
 def modules(top: Path) -> dict[str, ast.Module]:

@@ -6,6 +6,7 @@ spool     where records go: files, pipes, and the spool that sftpv3-recordd keep
 recorder  records a session: sftpv3-record
 nights    audits the sessions of a day: sftpv3-nightly
 serve     serves a session that a signal ends in order: sftpv3-serve
+fault     lets something go wrong between a client and a server: sftpv3-fault
 tree      the tree of a live folder: sftpv3-tree
 together  an order that explains sessions which overlapped: sftpv3-together
 peer      a server as its client has it: its process, its packets, its end

@@ -1,1 +1,2 @@
 pub mod FrameTexts
+pub mod Growing

@@ -1,7 +1,7 @@
 -- The bytes between a server of several clients and the program that passes them on: frames, in both directions. Each
 -- has the number of a client and some bytes of its stream. This profile's own.
-use Rattle.std.specs.Prelude.{◌≡◌, ◌==◌, ◌<◌, ◌≤◌, ◌^◌, ◌&&◌, nat_lt, ℕ, Bool, true, false, List, [], ◌∷◌, ◌++◌, length}
-use Rattle.std.specs.Prelude.{if◌then◌else◌}
+use Rattle.std.specs.Prelude.{◌≡◌, ◌==◌, ◌<◌, ◌≤◌, ◌+◌, ◌^◌, ◌&&◌, nat_lt, max, ℕ, Bool, true, false, List, [], ◌∷◌}
+use Rattle.std.specs.Prelude.{◌++◌, length, if◌then◌else◌}
 use Rattle.std.specs.List.{flat_map}
 use Rattle.sftp_strings.specs.Strings.{uint32, string}
 
@@ -53,6 +53,11 @@ unfoldable pub begins : ℕ → List Frame → Bool
 begins client [] = false
 begins client (frame ∷ frames) =
     if frame.0 == client then true else if nat_lt client frame.0 then false else begins client frames
+
+-- one more than the highest number of a client that a frame has
+unfoldable pub next_client : List Frame → ℕ
+next_client [] = 0
+next_client (frame ∷ frames) = max (frame.0 + 1) (next_client frames)
 
 -- what a server has of a client's stream, from the frames that it read
 abbrev pub read_of : ℕ → List Frame → List ℕ

@@ -4,8 +4,10 @@
 mod fronts;
 mod input;
 pub mod laws;
+mod stream_input;
 mod writing;
 
 pub use fronts::{FRAME_LIMIT, Front, front_frame};
 pub use input::FrameInput;
+pub use stream_input::StreamInput;
 pub use writing::{end_stream, put_frame, put_stream};
