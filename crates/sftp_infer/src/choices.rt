@@ -9,7 +9,7 @@ use std::alloc::Global;
 use std::collections::BTreeMap;
 
 /// The most proposals that a contradiction adds to the search.
-const PROPOSALS: usize = 256;
+const PROPOSALS: usize = 96;
 
 /// The most refusals for which another reason is tried after a contradiction.
 const GUESSES: usize = 8;
@@ -44,8 +44,6 @@ pub(crate) struct Choice {
     pub(crate) cost: usize,
     /// How far the pass came whose contradiction it may resolve.
     pub(crate) progress: u64,
-    /// Whether a contradiction is to propose all that may hide behind it, and nothing else.
-    pub(crate) wants_more: bool,
     pub(crate) is_waiting: bool,
 }
 
@@ -133,7 +131,6 @@ impl Choices {
             take: None,
             cost: 0,
             progress: u64::MAX,
-            wants_more: false,
             is_waiting: true,
         })?;
         Ok(())
@@ -148,7 +145,6 @@ impl Choices {
             take: None,
             cost: 1,
             progress: u64::MAX,
-            wants_more: false,
             is_waiting: true,
         })?;
         Ok(())
@@ -189,7 +185,6 @@ impl Choices {
 
     fn begin_choice(&self, index: usize, world: &mut World) -> Result<(), Stop> {
         if let Some(choice) = self.each.get(index) {
-            world.wants_more = choice.wants_more;
             if let Some(take) = choice.take {
                 world.takes.push(take)?;
             }
@@ -237,7 +232,6 @@ impl Choices {
             take: None,
             cost,
             progress: 0,
-            wants_more: false,
             is_waiting: false,
         })
     }
@@ -274,28 +268,10 @@ impl Choices {
             index: base,
             progress,
         };
-        let (cost, guesses) = (self.cost(base), world.guesses.as_slice());
-        if world.wants_more {
-            self.add_each(from, cost, world.proposals.as_slice())?;
-            return Ok(());
-        }
-        let cost = self.guess_otherwise(from, cost, guesses, told, true)?;
+        let guesses = world.guesses.as_slice();
+        let cost = self.guess_otherwise(from, self.cost(base), guesses, told, true)?;
         let cost = self.add_each(from, cost, world.proposals.as_slice())?;
-        let cost = self.guess_otherwise(from, cost, guesses, found, false)?;
-        self.add_more(from, cost)
-    }
-
-    /// Adds a choice that comes to the same contradiction, which then proposes all that may hide behind it.
-    fn add_more(&mut self, base: Base, cost: usize) -> Result<(), NoMemory> {
-        self.add(Choice {
-            parent: Some(base.index),
-            facts: Vec::new(self.alloc),
-            take: None,
-            cost,
-            progress: base.progress,
-            wants_more: true,
-            is_waiting: true,
-        })?;
+        self.guess_otherwise(from, cost, guesses, found, false)?;
         Ok(())
     }
 
@@ -318,7 +294,6 @@ impl Choices {
             take: None,
             cost,
             progress: base.progress,
-            wants_more: false,
             is_waiting: true,
         })?;
         Ok(())
@@ -365,7 +340,6 @@ impl Choices {
                     }),
                     cost,
                     progress: base.progress,
-                    wants_more: false,
                     is_waiting: true,
                 })?;
                 cost = cost.saturating_add(1);

@@ -153,9 +153,7 @@ impl<'w> Walk<'w> {
 
     /// Goes along the path of the home first.
     fn begin_at(&mut self, home: &'w [u8]) -> Result<(), NoMemory> {
-        if has_part(self.rest) {
-            self.waiting.push(self.rest)?;
-        }
+        self.waiting.push(self.rest)?;
         self.rest = home;
         self.is_given = false;
         Ok(())

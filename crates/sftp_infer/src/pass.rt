@@ -91,7 +91,7 @@ impl World {
                 Some(exchange) => {
                     let taken = self.take(session, listings, exchange);
                     if let Err(stop) = self.checked(taken) {
-                        if self.wants_more && is_clash(stop) {
+                        if is_clash(stop) {
                             self.propose_more(exchange.ask)?;
                         }
                         return passed_by(stop);

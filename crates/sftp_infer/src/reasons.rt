@@ -38,15 +38,6 @@ impl Reason {
             Codes::Either => code == status::NO_SUCH_FILE || code == status::FAILURE,
         }
     }
-
-    /// Whether it holds only of requests that follow a last link.
-    pub(crate) fn is_of_followed(self) -> bool {
-        match self.0 {
-            Some(Asks::Astray) => true,
-            Some(Asks::Loops) => true,
-            _ => false,
-        }
-    }
 }
 
 /// A refused request: its first path, whether a last link is followed there, its second path if it has one, and the
@@ -63,8 +54,6 @@ const LOOK: &[Reason] = &[
     Reason(Some(Asks::Nothing), None, Codes::NoSuchFile),
     Reason(Some(Asks::Lost), None, Codes::NoSuchFile),
     Reason(Some(Asks::Blocked), None, Codes::Either),
-    Reason(Some(Asks::Astray), None, Codes::NoSuchFile),
-    Reason(Some(Asks::Loops), None, Codes::Either),
 ];
 
 const SET_SIZE: &[Reason] = &[
@@ -72,8 +61,6 @@ const SET_SIZE: &[Reason] = &[
     Reason(Some(Asks::Directory), None, Codes::Failure),
     Reason(Some(Asks::Lost), None, Codes::NoSuchFile),
     Reason(Some(Asks::Blocked), None, Codes::Either),
-    Reason(Some(Asks::Astray), None, Codes::NoSuchFile),
-    Reason(Some(Asks::Loops), None, Codes::Either),
 ];
 
 /// Of a size beyond the usual limit, which no file may have.
@@ -82,8 +69,6 @@ const SET_LARGE: &[Reason] = &[
     Reason(Some(Asks::Something), None, Codes::Failure),
     Reason(Some(Asks::Lost), None, Codes::NoSuchFile),
     Reason(Some(Asks::Blocked), None, Codes::Either),
-    Reason(Some(Asks::Astray), None, Codes::NoSuchFile),
-    Reason(Some(Asks::Loops), None, Codes::Either),
 ];
 
 const OPEN_MAKING: &[Reason] = &[
@@ -91,7 +76,6 @@ const OPEN_MAKING: &[Reason] = &[
     Reason(Some(Asks::Lost), None, Codes::NoSuchFile),
     Reason(Some(Asks::Blocked), None, Codes::Either),
     Reason(Some(Asks::Astray), None, Codes::NoSuchFile),
-    Reason(Some(Asks::Loops), None, Codes::Either),
 ];
 
 const MAKE: &[Reason] = &[
@@ -105,8 +89,6 @@ const OPENDIR: &[Reason] = &[
     Reason(Some(Asks::NoDirectory), None, Codes::Either),
     Reason(Some(Asks::Lost), None, Codes::NoSuchFile),
     Reason(Some(Asks::Blocked), None, Codes::Either),
-    Reason(Some(Asks::Astray), None, Codes::NoSuchFile),
-    Reason(Some(Asks::Loops), None, Codes::Either),
 ];
 
 const RMDIR: &[Reason] = &[
@@ -120,8 +102,6 @@ const RMDIR: &[Reason] = &[
 const REALPATH: &[Reason] = &[
     Reason(Some(Asks::Lost), None, Codes::NoSuchFile),
     Reason(Some(Asks::Blocked), None, Codes::Either),
-    Reason(Some(Asks::Astray), None, Codes::NoSuchFile),
-    Reason(Some(Asks::Loops), None, Codes::Either),
 ];
 
 const READLINK: &[Reason] = &[
@@ -374,10 +354,6 @@ impl World {
                 let at = self.tell(spot, Sort::Link)?;
                 self.lead_astray(at)
             }
-            Asks::Loops => {
-                let at = self.tell(spot, Sort::Link)?;
-                self.lead_looped(at)
-            }
             _ => done(self.tell(spot, asks.sort())),
         }
     }
@@ -386,7 +362,6 @@ impl World {
     fn grant_target(&mut self, at: usize, asks: Asks) -> Result<(), Stop> {
         match asks {
             Asks::Astray => self.lead_astray(at),
-            Asks::Loops => self.lead_looped(at),
             _ => self.invent_target(at),
         }
     }

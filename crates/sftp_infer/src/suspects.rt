@@ -7,15 +7,14 @@ use crate::look::{Look, next_part};
 use crate::nodes::Sort;
 use crate::places::put_part;
 use crate::reasons::case_of;
-use crate::targets::lengthen;
 use crate::world::World;
 use sftp_path::NoMemory;
 use sftp_wire::{Ask, ByteString};
 
 /// The most entries that are suspected at once, and the most that each may lead to.
-const SUSPECTS: usize = 16;
+const SUSPECTS: usize = 12;
 
-const ENDS: usize = 24;
+const ENDS: usize = 12;
 
 /// The most names of a path at which a link is looked for.
 const NAMES: usize = 64;
@@ -40,7 +39,6 @@ fn end_of_name(path: &[u8], from: usize) -> Option<usize> {
 impl World {
     /// Proposes what else may resolve the contradiction at which this request ended the pass.
     pub(crate) fn propose_more(&mut self, ask: &Ask) -> Result<(), NoMemory> {
-        self.proposals.clear();
         let mut suspects = Vec::new(self.alloc);
         let found = self.suspect(ask, &mut suspects);
         if found.is_ok() {
@@ -215,7 +213,16 @@ impl World {
             drop(text);
             return Ok(None);
         }
-        Ok(Some(lengthen(text, length)?))
+        self.lengthen(text, length)
+    }
+
+    /// The text with slashes at its end, so that it has this length.
+    fn lengthen(&self, text: Vec<u8>, length: u64) -> Result<Option<Vec<u8>>, Stop> {
+        let mut text = text;
+        for _ in text.len() as u64..length {
+            text.push(b'/')?;
+        }
+        Ok(Some(text))
     }
 
     /// The text of the place of an entry at the start.

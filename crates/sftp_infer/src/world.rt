@@ -60,8 +60,6 @@ pub(crate) struct World {
     pub(crate) passes: u32,
     /// The entry that showed who owns what is made.
     pub(crate) owner_by: usize,
-    /// Whether a contradiction proposes all that may hide behind it, and nothing else.
-    pub(crate) wants_more: bool,
     /// The contradiction that ends the pass, and what might resolve it.
     pub(crate) clash: Option<Clash>,
     pub(crate) proposals: Vec<Fact>,
@@ -117,7 +115,6 @@ impl World {
             spare: Vec::new(alloc),
             passes: 0,
             owner_by: 0,
-            wants_more: false,
             clash: None,
             proposals: Vec::new(alloc),
             asked: 0,
