@@ -8,6 +8,5 @@ mod importing;
 mod profiles;
 mod requests;
 mod searching;
-mod several;
 
 pub use command_line::{Request, parse};

@@ -176,7 +176,6 @@ where
             sftp_serving::serve(rt, options, *style, input, output, errors)
         }
         Request::Audit(files) => subcommands::audit(rt, files, output, errors),
-        Request::AuditEach(options) => sftp_auditing::audit_each(rt, options, output, errors),
         Request::Infer(options) => sftp_inferring::infer(rt, options, output, errors),
         Request::Blank { file, keeping } => subcommands::blank(rt, file, *keeping),
         Request::Raise {
