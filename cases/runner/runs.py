@@ -113,7 +113,7 @@ class Program:
 
     def start(self, words: list[str], asked: Asked) -> subprocess.Popen:
         source = self.streams[0] if asked.size is None else subprocess.PIPE
-        is_script = words[0].startswith(SCRIPT)
+        is_script = bool(words) and words[0].startswith(SCRIPT)
         file = str(SCRIPTS / words[0].removeprefix(SCRIPT)) if is_script else self.file
         # SIGPIPE and SIGXFSZ stay ignored, so that a write fails in place of the process
         return subprocess.Popen(words, executable=file, stdin=source, stdout=self.sink(OUTPUT, asked),
