@@ -1,0 +1,2 @@
+-- What is gathered of sessions' files, and what is said of them.
+pub mod Members
