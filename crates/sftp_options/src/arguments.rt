@@ -23,6 +23,14 @@ pub(crate) enum Form<'a> {
     OneOf(&'a str, &'a [&'a str]),
     /// `--NAME VALUE,...`, which are some of these.
     SomeOf(&'a str, &'a [&'a str]),
+    /// `--NAME VALUE`, which has to be given unless the argument of this name is.
+    Unless(&'a str, &'a str),
+    /// `--NAME VALUE`, which can be given only together with the argument of this name.
+    With(&'a str, &'a str),
+    /// The same of a number below 2^64.
+    NumberWith(&'a str, &'a str),
+    /// `--NAME VALUE VALUE ..`, which needs the argument of this name and can be given with none of those.
+    Several(&'a str, &'a str, &'a [&'a str]),
 }
 
 const FILE: Form = Form::Place("FILE");
@@ -120,12 +128,38 @@ pub(crate) const SERVE: &[Argument] = &[
     NO_SYNC,
 ];
 
+/// What cannot be asked of sessions that are judged together.
+const NOT_TOGETHER: &[&str] = &[
+    "transcript",
+    "explain",
+    "cut",
+    "keep-going",
+    "most",
+    "progress",
+    "memory",
+];
+
 pub(crate) const AUDIT: &[Argument] = &[
     TREE,
     (
         "transcript",
-        Form::Required("FILE"),
+        Form::Unless("FILE", "together"),
         "The transcript: the recorded packets of the session",
+    ),
+    (
+        "together",
+        Form::Several("FILE", "order", NOT_TOGETHER),
+        "NAME.transcript and NAME.times of sessions that overlapped, which are judged together",
+    ),
+    (
+        "order",
+        Form::With("FILE", "together"),
+        "With --together: the order of all requests, which is judged",
+    ),
+    (
+        "tolerance",
+        Form::NumberWith("US", "together"),
+        "With --together: how many microseconds times of two sessions may be wrong, 0 by default",
     ),
     (
         "out",

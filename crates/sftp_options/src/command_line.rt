@@ -12,12 +12,13 @@ ghost use Rattle.sftp_options.specs.Options.{IsAuditAsked, IsAuditRequest, Lacks
 use crate::arguments::{
     AUDIT, Argument, BLANK, DIFF, EXPORT, Form, IMPORT, INFER, MAKE, RAISE, SERVE, SHOW,
 };
-use crate::{help, importing, profiles, searching};
+use crate::{help, importing, profiles, searching, together};
 use clap::error::ErrorKind;
 use clap::{Arg, ArgAction, ArgMatches, Command, Error, value_parser};
 use sftp_files::{
     DiffForm, Failure, ImportOptions, Keeping, MORE, PRIVATE, RaiseTo, ServeOptions, ShowOptions,
 };
+use sftp_overlapping::TogetherOptions;
 use sftp_vary::{Freedoms, Style, Variation, Words};
 use sftp_verdicts::{AuditOptions, InferOptions, octal};
 use std::alloc::{AllocError, Global};
@@ -29,6 +30,8 @@ pub enum Request<'a> {
     Serve(ServeOptions<'a>, Style),
     /// Audit a session.
     Audit(AuditOptions<'a>),
+    /// Audit sessions that overlapped, together.
+    AuditTogether(TogetherOptions<'a>),
     /// Infer a tree from a session, and audit the session with it.
     Infer(InferOptions<'a>),
     /// Write the blank tree to a file.
@@ -139,18 +142,33 @@ fn has_control_character(word: &str) -> bool {
 
 fn matched<'a>(alloc: Global, version: &'a str, words: &'a [String]) -> Result<Request<'a>, Error> {
     let mut command = command(alloc, version)?;
-    let request = matched_by(&mut command, words);
+    let request = matched_by(alloc, &mut command, words);
     drop(command);
     request
 }
 
-fn matched_by<'a>(command: &mut Command<'a>, words: &'a [String]) -> Result<Request<'a>, Error> {
+fn matched_by<'a>(
+    alloc: Global,
+    command: &mut Command<'a>,
+    words: &'a [String],
+) -> Result<Request<'a>, Error> {
     let matches = command.try_get_matches_from_mut(words)?;
-    let request = requested(&matches);
+    let request = request_of(alloc, &matches);
     drop(matches);
-    match request {
+    match request? {
         Some(request) => Ok(request),
         None => Err(command.error(ErrorKind::MissingSubcommand, "a subcommand is required")?),
+    }
+}
+
+/// What a command line asks for.
+fn request_of<'a>(
+    alloc: Global,
+    matches: &ArgMatches<'a>,
+) -> Result<Option<Request<'a>>, AllocError> {
+    match together::request_of(alloc, matches)? {
+        Some(request) => Ok(Some(request)),
+        None => Ok(requested(matches)),
     }
 }
 
@@ -441,14 +459,33 @@ fn with_arguments<'a>(
 ) -> Result<Command<'a>, AllocError> {
     let mut command = command;
     for (name, form, help) in arguments {
-        command = command.arg(new_argument(alloc, name, *form, help))?;
+        command = with_argument(command, new_argument(alloc, name, *form, help))?;
     }
     Ok(command)
 }
 
-fn new_argument<'a>(alloc: Global, name: &'a str, form: Form<'a>, help: &'a str) -> Arg<'a> {
+/// The command with a further argument.
+fn with_argument<'a>(
+    command: Command<'a>,
+    argument: Result<Arg<'a>, AllocError>,
+) -> Result<Command<'a>, AllocError> {
+    match argument {
+        Ok(argument) => command.arg(argument),
+        Err(error) => {
+            drop(command);
+            Err(error)
+        }
+    }
+}
+
+fn new_argument<'a>(
+    alloc: Global,
+    name: &'a str,
+    form: Form<'a>,
+    help: &'a str,
+) -> Result<Arg<'a>, AllocError> {
     let arg = Arg::new(alloc, name).help(help);
-    match form {
+    Ok(match form {
         Form::Flag => arg.long(name).action(ArgAction::SetTrue),
         Form::Place(label) => valued(arg, label).required(true),
         Form::Required(label) => valued(arg.long(name), label).required(true),
@@ -456,7 +493,34 @@ fn new_argument<'a>(alloc: Global, name: &'a str, form: Form<'a>, help: &'a str)
         Form::Number(label) => { valued(arg.long(name), label).value_parser(value_parser!(u64)) }
         Form::OneOf(label, values) => valued(arg.long(name), label).value_parser(values),
         Form::SomeOf(label, values) => listed(arg.long(name), label, values),
-    }
+        Form::Unless(label, other) => {
+            return valued(arg.long(name), label).required_unless_present(other);
+        }
+        Form::With(label, other) => return valued(arg.long(name), label).requires_arg(other),
+        Form::NumberWith(label, other) => {
+            return valued(arg.long(name), label)
+                .value_parser(value_parser!(u64))
+                .requires_arg(other);
+        }
+        Form::Several(label, other, excluded) => {
+            return several(arg.long(name), label, other, excluded);
+        }
+    })
+}
+
+/// The argument with some values, which needs another one and can be given with none of those.
+fn several<'a>(
+    arg: Arg<'a>,
+    label: &'a str,
+    other: &'a str,
+    excluded: &[&'a str],
+) -> Result<Arg<'a>, AllocError> {
+    let arg = arg
+        .value_name(label)
+        .num_args(1..)
+        .action(ArgAction::Append)
+        .requires_arg(other)?;
+    arg.conflicts_with_all(excluded)
 }
 
 /// The argument with a value, which help calls by this label.

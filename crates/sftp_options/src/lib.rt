@@ -8,5 +8,6 @@ mod importing;
 mod profiles;
 mod requests;
 mod searching;
+mod together;
 
 pub use command_line::{Request, parse};

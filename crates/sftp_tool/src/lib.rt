@@ -172,6 +172,9 @@ where
             sftp_serving::serve(rt, options, *style, input, output, errors)
         }
         Request::Audit(files) => subcommands::audit(rt, files, output, errors),
+        Request::AuditTogether(options) => {
+            sftp_overlapping::audit_together(rt, options, output)
+        }
         Request::Infer(options) => sftp_inferring::infer(rt, options, output, errors),
         Request::Blank { file, keeping } => subcommands::blank(rt, file, *keeping),
         Request::Raise {
