@@ -22,7 +22,7 @@ use std::fs::Files;
 use std::io::Write;
 
 /// Why no tree is written.
-const FILE_LOST: &str = "the tree would be written into a file of '--together' or of '--order'";
+const FILE_LOST: &str = "the tree would be written into a file of '--together' or '--order'";
 
 /// Why a set needs files.
 const NO_FILES: &str = "'--together' needs NAME.transcript and NAME.times of each session";

@@ -137,17 +137,15 @@ impl Kind {
     /// What it means.
     fn meaning(self) -> &'static str {
         match self {
-            Kind::Session(Refusal::UnknownReply { .. }) => "no request waits for this reply",
-            Kind::Session(Refusal::IdInUse { .. }) => "a request that waits has this id",
+            Kind::Session(Refusal::UnknownReply { .. }) => "no request waits for it",
+            Kind::Session(Refusal::IdInUse { .. }) => "a request that waits has its id",
             Kind::Session(Refusal::Window { .. }) => "too many requests wait",
-            Kind::Session(Refusal::Unanswered { .. }) => "the request has no reply",
+            Kind::Session(Refusal::Unanswered { .. }) => "it has no reply",
             Kind::Session(_) => "the session cannot be judged",
             Kind::NothingLeft => "the session has no request left",
-            Kind::Clock => {
-                "the request had its reply before one with an earlier place was asked"
-            }
-            Kind::NotAllowed => "the reply is not right there",
-            Kind::LeftOut => "the order has no place for the request",
+            Kind::Clock => "it was answered before an earlier one was asked",
+            Kind::NotAllowed => "the reply is wrong",
+            Kind::LeftOut => "the order has no place for it",
         }
     }
 }
