@@ -48,7 +48,7 @@ fn sorted<'a>(alloc: Global, paths: &[&'a str]) -> Result<Vec<Piece<'a>>, Failur
     let mut pieces = Vec::new(alloc);
     for path in paths {
         match piece_of(path) {
-            Some(piece) => pieces.push(piece)?,
+            Some(piece) => push(&mut pieces, piece)?,
             None => {
                 drop(pieces);
                 return Err(misfit(alloc, path, "is neither NAME.transcript nor NAME.times"));
@@ -57,6 +57,14 @@ fn sorted<'a>(alloc: Global, paths: &[&'a str]) -> Result<Vec<Piece<'a>>, Failur
     }
     pieces.sort_unstable_by(order_of);
     Ok(pieces)
+}
+
+/// Appends a value.
+fn push<T: Drop>(list: &mut Vec<T>, value: T) -> Result<(), AllocError> {
+    match list.push(value) {
+        Ok(()) => Ok(()),
+        Err(failed) => Err(AllocError::from(failed)),
+    }
 }
 
 /// Which of two files comes first.
@@ -104,7 +112,7 @@ fn paired<'r, 'a, R: System>(
     let mut members = Vec::new(rt.alloc());
     for pair in pieces.chunks(2) {
         match member_of(rt, pair) {
-            Ok(member) => members.push(member)?,
+            Ok(member) => push(&mut members, member)?,
             Err(failure) => {
                 drop(members);
                 return Err(failure);
