@@ -96,6 +96,7 @@ pub(crate) fn say_accepted<'a, O: Write>(
 
 /// Where a set is refused: which session, which record of its transcript, at which place of the order from 1 on, and
 /// why.
+#[derive(Clone, Copy)]
 struct Spot {
     session: usize,
     record: Option<u64>,
@@ -197,6 +198,7 @@ fn spot_of_fault(fault: OrderFault) -> Spot {
 }
 
 /// A place of an order, as a line has it.
+#[derive(Clone, Copy)]
 struct AtPlace(Option<u64>);
 
 impl fmt::Display for AtPlace {
@@ -209,6 +211,7 @@ impl fmt::Display for AtPlace {
 }
 
 /// A record, as a line has it.
+#[derive(Clone, Copy)]
 struct OfRecord(Option<u64>);
 
 impl fmt::Display for OfRecord {
