@@ -14,11 +14,16 @@ use Rattle.sftp_transcript.specs.Explained.{StepOf}
 use Rattle.sftp_transcript.proofs.transcripts.{records_are_one_lem}
 use Rattle.sftp_together.specs.Sets.{TimedEvent, IsWhole, timed_exchanges, AreExplained}
 use Rattle.sftp_together.specs.Checks.{ExplainsBy}
-use Rattle.sftp_sets.specs.Sessions.{IsSession, timed}
+use Rattle.sftp_sets.specs.Sessions.{IsSession, IsFirstFault, timed}
 use Rattle.sftp_gathering.specs.declared.clock.SetClock.{SetClock}
 use Rattle.sftp_gathering.specs.declared.clock.SetClock.TheVariants.{Dates}
 use Rattle.sftp_gathering.specs.Files.{SessionFiles, IsSessionOf, AreSessionsOf, IsSetExplained, IsSetExplainedBy, clock_of, start_of}
-use Rattle.sftp_gathering.specs.Gathered.{Gathered, AreOn, IsGathered, IsNoMember, IsOnClock}
+use Rattle.sftp_gathering.specs.Gathered.{Gathered, AreOn, IsGathered, IsNoMember, IsOnClock, IsReadOn, IsTimesFault}
+use Rattle.sftp_gathering.specs.Gathered.{IsMemberFault, IsUnreadMember}
+use Rattle.sftp_gathering.specs.declared.errors.MemberError.{MemberError}
+use Rattle.sftp_gathering.specs.declared.errors.MemberError.TheVariants.{Times, OtherClock, Session}
+use Rattle.sftp_gathering.specs.declared.clocks.TimesOnClock.{TimesOnClock}
+use Rattle.sftp_sets.specs.declared.errors.SessionError.{SessionError}
 
 -- ---- one session at most
 
@@ -151,6 +156,70 @@ none-other (Some c) (g ∷ each) (t ∷ ts) f beginning entries on is other othe
     let same = same_times f.times found.1.beginning beginning found.1.entries entries found.1.times_are is in
     other (one_clock c clock g t s on.0 are.0 ∙ sym found.1.clock_is
     ∙ ap (λ (x : Beginning). clock_of x.boot) same.0)
+
+-- the error of a file of times refuses the session
+pub none-times : (gathered : Gathered) (each : List SessionFiles) (f : SessionFiles) (error : MemberError)
+    → IsGathered each gathered → IsTimesFault gathered.clock f.times error → (IsUnreadMember error → ⊥)
+    → IsNoMember each f
+none-times gathered each f (Times times_errors.NoMemory) is fault judged = absurd (judged tt)
+none-times gathered each f (Times times_errors.Magic) is fault judged = none-malformed each f times_errors.Magic fault
+none-times gathered each f (Times (times_errors.Short entry)) is fault judged =
+    none-malformed each f (times_errors.Short entry) fault
+none-times gathered each f (Times (times_errors.Order entry)) is fault judged =
+    none-malformed each f (times_errors.Order entry) fault
+none-times gathered each f OtherClock is fault judged =
+    none-other gathered.clock each is.sessions f fault.beginning fault.entries is.sessions_are fault.times_are
+    fault.other
+none-times gathered each f (Session error) is fault judged = absurd fault
+
+-- and is the first fault of its files
+pub first-times : (so_far : Option SetClock) (f : SessionFiles) (error : MemberError)
+    → IsTimesFault so_far f.times error → IsMemberFault so_far f error
+first-times so_far f (Times error) fault = fault
+first-times so_far f OtherClock fault = fault
+first-times so_far f (Session error) fault = absurd fault
+
+-- ---- what is read
+
+pub session-of : (so_far : Option SetClock) (f : SessionFiles) (read : TimesOnClock) (session : List TimedEvent)
+    → IsReadOn so_far f.times read
+    → IsSession f.transcript read.times.start read.times.entries.items session
+    → IsSessionOf read.clock f session
+session-of so_far f read session r is = record {
+  beginning = r.beginning;
+  entries = read.times.entries.items;
+  times_are = r.times_are;
+  clock_is = r.clock_is;
+  session_is =
+      subst (λ (n : ℕ). IsSession f.transcript n read.times.entries.items session) r.start_is is;
+}
+
+pub none-session : (so_far : Option SetClock) (each : List SessionFiles) (f : SessionFiles) (read : TimesOnClock)
+    → IsReadOn so_far f.times read
+    → ((session : List TimedEvent) → IsSession f.transcript read.times.start read.times.entries.items session → ⊥)
+    → IsNoMember each f
+none-session so_far each f read r none =
+    none-unread each f r.beginning read.times.entries.items r.times_are
+    (λ session is. none session
+    (subst (λ (n : ℕ). IsSession f.transcript n read.times.entries.items session) (sym r.start_is) is))
+
+pub first-session : (so_far : Option SetClock) (f : SessionFiles) (read : TimesOnClock) (error : SessionError)
+    → IsReadOn so_far f.times read → IsFirstFault f.transcript read.times.entries.items error
+    → IsMemberFault so_far f (Session error)
+first-session so_far f read error r fault = record {
+  beginning = r.beginning;
+  entries = read.times.entries.items;
+  times_are = r.times_are;
+  fault = fault;
+}
+
+-- where nothing is gathered
+pub gathered-none : (gathered : Gathered) → gathered.clock ≡ None → gathered.each ≡ [] → IsGathered [] gathered
+gathered-none gathered clock each = record {
+  sessions = [];
+  sessions_are = subst (λ (c : Option SetClock). AreOn c [] []) (sym clock) (refl, refl);
+  exchanges_are = each;
+}
 
 -- ---- what is judged
 
