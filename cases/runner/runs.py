@@ -50,10 +50,11 @@ def be_late(*_) -> None:
 
 
 def words_of(line: str) -> list[str]:
-    """Returns the words of a line: what is in quotes is one word, and what is outside is cut at spaces."""
+    """Returns the words of a line: what is in quotes is one word, and what is outside is cut at spaces. Two `'` in a
+    word in quotes stand for a quote."""
     found: list[str] = []
     for number, part in enumerate(line.split('"')):
-        found += [part] if number % 2 else part.split()
+        found += [part.replace("''", '"')] if number % 2 else part.split()
     return found
 
 

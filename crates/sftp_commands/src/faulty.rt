@@ -148,6 +148,13 @@ impl<'a> Faulty<'a> {
         Some(faulty)
     }
 
+    /// Writes the line about the file, if it is of another kind.
+    pub fn put_format<E: Write>(&self, errors: &mut E) {
+        if self.format.is_some() {
+            let _ = write_flushed(errors, format_args!("sftpv3: {self}\n"));
+        }
+    }
+
     /// Writes the line about the file, if it says more than the line of the failure.
     pub fn put<E: Write>(&self, errors: &mut E) {
         if self.format.is_some() || !self.is_named {

@@ -44,16 +44,27 @@ pub fn print_failed<'a, O: Write>(
 ) {
     let mut json = JsonLines::new(output, usize::MAX);
     json.open();
-    json.open_member("error");
-    json.number("status", u64::from(failure.status()));
-    json.word("kind", kind_of(failure));
-    put_file(failure, file, &mut json);
-    put_message(alloc, failure, &mut json);
-    put_spot(spot, &mut json);
-    json.close();
+    put_failed(alloc, failure, file, spot, &mut json);
     json.end_line();
     drop(json.finish());
     drop(json);
+}
+
+/// Writes the member that says why a run failed, with what is known of the malformed file, and where its fault is.
+pub fn put_failed<'a, O: Write>(
+    alloc: Global,
+    failure: &Failure<'a>,
+    file: Option<Faulty<'a>>,
+    spot: Option<Spot>,
+    json: &mut JsonLines<'_, O>,
+) {
+    json.open_member("error");
+    json.number("status", u64::from(failure.status()));
+    json.word("kind", kind_of(failure));
+    put_file(failure, file, json);
+    put_message(alloc, failure, json);
+    put_spot(spot, json);
+    json.close();
 }
 
 /// Whether standard output failed, to which no more is written then.
@@ -76,6 +87,7 @@ fn kind_of(failure: &Failure<'_>) -> &'static str {
         Failure::CannotWrite(..) | Failure::CannotReplace(..) => "write",
         Failure::CannotCopy(..) | Failure::Unfit(..) => "write",
         Failure::OverLimit(_) | Failure::OutOfMemory => "memory",
+        Failure::Unjudged(..) => "unjudged",
     }
 }
 

@@ -1,7 +1,9 @@
 //! Which records the command line selects.
 ghost use Rattle.std.specs.Prelude.{◌<◌, length, IfSome};
 
+use crate::filters::filter_of;
 use sftp_files::{Failure, MORE, Named, ShowOptions};
+use sftp_filter::Expression;
 use sftp_views::Selection;
 use std::alloc::{AllocError, Global};
 
@@ -12,6 +14,8 @@ pub(crate) struct Wanted {
     path: Option<Vec<u8>>,
     handle: Option<Vec<u8>>,
     range: Range,
+    followed: Option<Vec<u8>>,
+    filter: Option<Expression>,
 }
 
 impl Wanted {
@@ -24,6 +28,16 @@ impl Wanted {
             first: self.range.first,
             last: self.range.last,
         }
+    }
+
+    /// The path of the file that is followed through its handles.
+    pub(crate) fn followed(&self) -> Option<&[u8]> {
+        bytes_of(&self.followed)
+    }
+
+    /// What exchanges have to meet.
+    pub(crate) fn filter(&self) -> Option<&Expression> {
+        self.filter.as_ref()
     }
 }
 
@@ -45,19 +59,34 @@ pub(crate) fn read_wanted<'a>(
 ) -> Result<Wanted, Failure<'a>> {
     let id = id_of(alloc, options.id)?;
     let range = range_of(alloc, options.records)?;
-    let path = text_of(alloc, "path <PATH>", options.path)?;
-    match text_of(alloc, "handle <HANDLE>", options.handle) {
-        Ok(handle) => Ok(Wanted {
-            id,
-            path,
-            handle,
-            range,
-        }),
+    let mut wanted = Wanted {
+        id,
+        path: None,
+        handle: None,
+        range,
+        followed: None,
+        filter: None,
+    };
+    match read_texts(alloc, options, &mut wanted) {
+        Ok(()) => Ok(wanted),
         Err(failure) => {
-            drop(path);
+            drop(wanted);
             Err(failure)
         }
     }
+}
+
+/// Reads the options that are texts.
+fn read_texts<'a>(
+    alloc: Global,
+    options: &ShowOptions<'_>,
+    wanted: &mut Wanted,
+) -> Result<(), Failure<'a>> {
+    wanted.path = text_of(alloc, "path <PATH>", options.path)?;
+    wanted.handle = text_of(alloc, "handle <HANDLE>", options.handle)?;
+    wanted.followed = text_of(alloc, "handle-of <PATH>", options.handle_of)?;
+    wanted.filter = filter_of(alloc, options.filter)?;
+    Ok(())
 }
 
 /// The id that an option names.

@@ -1,15 +1,12 @@
 //! The subcommand `show` with times, with a selection of records, or as JSON.
-ghost use Rattle.std.specs.Prelude.{◌≡◌, IfOk};
-ghost use Rattle.sftp_files.specs.declared.messages.Ending.TheVariants as endings;
-
 use crate::cuts::limit_of;
 use crate::objects::printed;
 use crate::selecting::{Wanted, read_wanted};
-use crate::showing::{is_transcript_read, outcome, shown_tree};
+use crate::showing::{is_transcript_read, shown_tree};
 use sftp_files::{Ending, Failure, Named, STANDARD_OUTPUT, ShowOptions, open};
 use sftp_transcript::{Reader, Tally};
 use sftp_treefile::TreeFile;
-use sftp_views::{Clock, Form, View, ViewError, put_tree, show_records};
+use sftp_views::{Clock, Form, Shape, View, ViewError, put_tree, show_records};
 use std::alloc::Global;
 use std::fs::Files;
 use std::io::{BufReader, Read, Write};
@@ -28,6 +25,20 @@ fn picks_records(options: &ShowOptions<'_>) -> bool {
         || options.records.is_some()
         || options.in_pairs
         || options.marks
+        || options.filter.is_some()
+        || options.handle_of.is_some()
+        || options.in_exchanges
+        || options.in_figures
+}
+
+/// Whether options select some of the records.
+fn selects(options: &ShowOptions<'_>) -> bool {
+    options.id.is_some()
+        || options.path.is_some()
+        || options.handle.is_some()
+        || options.records.is_some()
+        || options.filter.is_some()
+        || options.handle_of.is_some()
 }
 
 /// Why options cannot be used together, if they cannot.
@@ -37,8 +48,19 @@ pub(crate) fn misuse(options: &ShowOptions<'_>) -> Option<&'static str> {
             "'--full' cannot be used with '--times' or with a selection; '--json' has the same fields",
         );
     }
-    if options.data.is_some() && !options.is_full && !options.is_json {
+    if options.data.is_some() && !options.is_full && !options.is_json && !options.in_exchanges {
         return Some("the following required arguments were not provided:\n  --full, or --json");
+    }
+    misuse_of_shapes(options)
+}
+
+/// Why the options that say what is shown of exchanges cannot be used together, if they cannot.
+fn misuse_of_shapes(options: &ShowOptions<'_>) -> Option<&'static str> {
+    if options.in_figures && (options.in_exchanges || options.in_pairs) {
+        return Some("'--stat' cannot be used with '--pairs' or '--exchanges'");
+    }
+    if options.in_pairs && options.in_exchanges {
+        return Some("'--pairs' cannot be used with '--exchanges'");
     }
     None
 }
@@ -48,16 +70,27 @@ pub(crate) fn view<'a, R: Files + AllocGlobal, O: Write>(
     rt: &R,
     options: &ShowOptions<'a>,
     output: &mut O,
-) -> Result<Ending, Failure<'a>>
-    ensures { IfOk result (λ ending. ending ≡ endings.Done) }
-{
+) -> Result<Ending, Failure<'a>> {
     let limit = limit_of(rt.alloc(), options.data)?;
     match read_wanted(rt.alloc(), options) {
         Ok(wanted) => {
             let shown = view_wanted(rt, options, &wanted, limit, output);
             drop(wanted);
-            outcome(shown, Ok(()))
+            ending_of(options, shown)
         }
+        Err(failure) => Err(failure),
+    }
+}
+
+/// How a run ends that showed something or not. Where nothing was asked for in particular, a file has enough without
+/// it.
+fn ending_of<'a>(
+    options: &ShowOptions<'_>,
+    shown: Result<bool, Failure<'a>>,
+) -> Result<Ending, Failure<'a>> {
+    match shown {
+        Ok(false) if selects(options) => Ok(Ending::Unmatched),
+        Ok(_) => Ok(Ending::Done),
         Err(failure) => Err(failure),
     }
 }
@@ -69,10 +102,12 @@ fn view_wanted<'a, R: Files + AllocGlobal, O: Write>(
     wanted: &Wanted,
     limit: usize,
     output: &mut O,
-) -> Result<(), Failure<'a>> {
+) -> Result<bool, Failure<'a>> {
     let view = View {
         selection: wanted.selection(),
-        in_pairs: options.in_pairs,
+        filter: wanted.filter(),
+        followed: wanted.followed(),
+        shape: shape_of(options),
         form: form_of(options, limit),
     };
     let mut file = open(rt, options.file)?;
@@ -87,7 +122,19 @@ fn form_of(options: &ShowOptions<'_>, limit: usize) -> Form {
     if options.is_json {
         Form::Json(limit)
     } else {
-        Form::Text
+        Form::Text(limit)
+    }
+}
+
+fn shape_of(options: &ShowOptions<'_>) -> Shape {
+    if options.in_figures {
+        Shape::Figures
+    } else if options.in_exchanges {
+        Shape::Exchanges
+    } else if options.in_pairs {
+        Shape::Pairs
+    } else {
+        Shape::Records
     }
 }
 
@@ -99,12 +146,13 @@ fn view_by_opening<'a, F: Read, R: Files + AllocGlobal, O: Write>(
     file: &mut F,
     bytes: &mut Vec<u8>,
     output: &mut O,
-) -> Result<(), Failure<'a>> {
+) -> Result<bool, Failure<'a>> {
     match is_transcript_read(options.file, file, bytes) {
         Ok(true) => view_timed(rt, options, view, bytes.as_slice().chain(file), output),
         Ok(false) => {
             let file = bytes.as_slice().chain(file);
-            view_rows(rt.alloc(), options, view.form, file, output)
+            view_rows(rt.alloc(), options, view.form, file, output)?;
+            Ok(true)
         }
         Err(failure) => Err(failure),
     }
@@ -117,7 +165,7 @@ fn view_timed<'a, F: Read + Drop, R: Files + AllocGlobal, O: Write>(
     view: &View<'_>,
     file: F,
     output: &mut O,
-) -> Result<(), Failure<'a>> {
+) -> Result<bool, Failure<'a>> {
     match open_times(rt, options.times) {
         Ok(times) => view_records(rt.alloc(), options, view, file, times, output),
         Err(failure) => {
@@ -148,7 +196,7 @@ fn view_records<'a, F: Read + Drop, C: Read + Drop, O: Write>(
     file: F,
     times: Option<C>,
     output: &mut O,
-) -> Result<(), Failure<'a>> {
+) -> Result<bool, Failure<'a>> {
     let mut clock = Clock::new(alloc, times);
     let shown = match Reader::new(alloc, Tally::new(file)) {
         Ok(mut records) => {
@@ -160,7 +208,7 @@ fn view_records<'a, F: Read + Drop, C: Read + Drop, O: Write>(
     };
     drop(clock);
     match shown {
-        Ok(()) => Ok(()),
+        Ok(has_shown) => Ok(has_shown),
         Err(error) => {
             let failure = failure_of(alloc, options, &error);
             drop(error);

@@ -1,5 +1,5 @@
 -- Which failure of a run each error is: when memory runs out, no file is to blame.
-use Rattle.std.specs.Prelude.{◌≡◌, ℕ, List, ◌≢◌, ◌⊎◌}
+use Rattle.std.specs.Prelude.{◌≡◌, ℕ, List, ◌≢◌, ◌⊎◌, if◌then◌else◌}
 use Rattle.sftp_treefile.specs.declared.errors.TreeError.{TreeError}
 use Rattle.sftp_treefile.specs.declared.errors.TreeError.TheVariants as tree_errors
 use Rattle.sftp_transcript.specs.declared.errors.TranscriptError.{TranscriptError}
@@ -9,7 +9,8 @@ use Rattle.sftp_files.specs.declared.messages.Failure.TheVariants as failures
 use Rattle.std.specs.Int.RustNames.{bit_and}
 use Rattle.sftp_files.specs.declared.links.Owned.{Owned}
 use Rattle.sftp_files.specs.declared.messages.Ending.{Ending}
-use Rattle.sftp_files.specs.declared.messages.Ending.TheVariants.{Done, Refused, Broken, Different, Explained}
+use Rattle.sftp_files.specs.declared.messages.Ending.TheVariants.{Done, Refused, Broken, Different}
+use Rattle.sftp_files.specs.declared.messages.Ending.TheVariants.{Unmatched, Explained}
 
 abbrev pub tree_failure : TreeError → Failure
 tree_failure tree_errors.NoMemory = failures.OutOfMemory
@@ -87,6 +88,7 @@ ending_status Done = 0
 ending_status Refused = 1
 ending_status Broken = 1
 ending_status Different = 1
+ending_status Unmatched = 1
 ending_status Explained = 2
 
 -- 2: bad usage or a malformed input file or text; 3: a file, a stream or memory failed
@@ -104,3 +106,4 @@ failure_status (failures.CannotCopy _ _) = 3
 failure_status (failures.Unfit _ _) = 3
 failure_status (failures.OverLimit _) = 3
 failure_status failures.OutOfMemory = 3
+failure_status (failures.Unjudged _ _ are_read) = if are_read then 2 else 3

@@ -39,6 +39,8 @@ pub enum Ending {
     Broken,
     /// The trees differ.
     Different,
+    /// Nothing of the file is what was asked for.
+    Unmatched,
     /// A file is malformed, and standard error says so, and where.
     Explained,
 }
@@ -74,6 +76,8 @@ pub enum Failure<'a> {
     OverLimit(&'a str),
     /// Memory ran out.
     OutOfMemory,
+    /// So many of so many transcripts have no verdict; and whether all of these could be read.
+    Unjudged(u64, u64, bool),
 }
 
 impl Failure<'_> {
@@ -93,6 +97,7 @@ impl Failure<'_> {
             Failure::Unfit(name, _) => ("sftpv3: cannot write ", name),
             Failure::OverLimit(name) => ("sftpv3: out of memory: ", name),
             Failure::OutOfMemory => ("sftpv3: out of memory", ""),
+            Failure::Unjudged(..) => ("sftpv3: ", ""),
         }
     }
 
@@ -108,6 +113,9 @@ impl Failure<'_> {
             ),
             Failure::Unfit(_, reason) => write!(f, ": {reason}"),
             Failure::OverLimit(_) => f.write_str(" needs more than '--memory' allows"),
+            Failure::Unjudged(count, all, _) => {
+                write!(f, "{count} of {all} transcripts have no verdict")
+            }
             _ => Ok(()),
         }
     }
@@ -136,6 +144,7 @@ impl Ending {
             Ending::Refused => 1,
             Ending::Broken => 1,
             Ending::Different => 1,
+            Ending::Unmatched => 1,
             Ending::Explained => 2,
         }
     }
@@ -159,6 +168,7 @@ impl Failure<'_> {
             Failure::CannotRead(..) | Failure::CannotWrite(..) => 3,
             Failure::CannotReplace(..) | Failure::CannotCopy(..) | Failure::Unfit(..) => 3,
             Failure::OverLimit(_) | Failure::OutOfMemory => 3,
+            Failure::Unjudged(_, _, are_read) => if *are_read { 2 } else { 3 },
         }
     }
 }
@@ -231,6 +241,8 @@ impl<'a> Failure<'a> {
 }
 
 impl Failure<'_> {
+    ghost use Rattle.sftp_files.specs.Failures.{failure_status};
+
     /// Bad usage with this message, unless there is no memory for it.
     pub fn of_usage(message: Result<String, AllocError>) -> Self
         ensures { IsUsage result }
@@ -249,7 +261,9 @@ impl Failure<'_> {
     }
 
     /// A malformed text or archive with this message, unless there is no memory for it.
-    pub fn of_text(message: Result<String, AllocError>) -> Self {
+    pub fn of_text(message: Result<String, AllocError>) -> Self
+        ensures { 2 ≤ failure_status result }
+    {
         match message {
             Ok(message) => Failure::Text(message),
             Err(_) => Failure::OutOfMemory,

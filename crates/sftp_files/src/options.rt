@@ -52,6 +52,14 @@ pub struct ShowOptions<'a> {
     pub marks: bool,
     /// Whether the file is shown as JSON.
     pub is_json: bool,
+    /// The expression that exchanges have to meet.
+    pub filter: Option<&'a str>,
+    /// The path of the file that is followed through its handles, in which bytes may be escaped.
+    pub handle_of: Option<&'a str>,
+    /// Whether a request and its reply are on one line.
+    pub in_exchanges: bool,
+    /// Whether figures of the session are shown.
+    pub in_figures: bool,
 }
 
 /// The options of `import`.

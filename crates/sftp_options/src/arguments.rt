@@ -13,6 +13,8 @@ pub(crate) enum Form<'a> {
     Flag,
     /// `VALUE`, which has to be given.
     Place(&'a str),
+    /// `VALUE`, any number of times.
+    Places(&'a str),
     /// `--NAME VALUE`, which has to be given.
     Required(&'a str),
     /// `--NAME VALUE`.
@@ -23,8 +25,6 @@ pub(crate) enum Form<'a> {
     OneOf(&'a str, &'a [&'a str]),
     /// `--NAME VALUE,...`, which are some of these.
     SomeOf(&'a str, &'a [&'a str]),
-    /// `--NAME VALUE`, which has to be given unless the argument of this name is.
-    Unless(&'a str, &'a str),
     /// `--NAME VALUE`, which can be given only together with the argument of this name.
     With(&'a str, &'a str),
     /// The same of a number below 2^64.
@@ -131,6 +131,8 @@ pub(crate) const SERVE: &[Argument] = &[
 /// What cannot be asked of sessions that are judged together.
 const NOT_TOGETHER: &[&str] = &[
     "transcript",
+    "transcripts-from",
+    "files",
     "explain",
     "cut",
     "keep-going",
@@ -143,8 +145,13 @@ pub(crate) const AUDIT: &[Argument] = &[
     TREE,
     (
         "transcript",
-        Form::Unless("FILE", "together"),
+        Form::Optional("FILE"),
         "The transcript: the recorded packets of the session",
+    ),
+    (
+        "transcripts-from",
+        Form::Optional("LIST"),
+        "A file with the name of a transcript on each line; each is audited, and has a line of its own",
     ),
     (
         "together",
@@ -201,6 +208,11 @@ pub(crate) const AUDIT: &[Argument] = &[
     MEMORY,
     MODE,
     NO_SYNC,
+    (
+        "files",
+        Form::Places("FILE"),
+        "Transcripts; each is audited, and has a line of its own",
+    ),
 ];
 
 pub(crate) const INFER: &[Argument] = &[
@@ -273,7 +285,7 @@ pub(crate) const SHOW: &[Argument] = &[
     (
         "data",
         Form::Optional("N|all"),
-        "With --full or --json: cut each text after N bytes, 256 by default, or print all of it",
+        "With --full, --json or --exchanges: cut each text after N bytes, 256 by default, or print all",
     ),
     (
         "json",
@@ -309,6 +321,26 @@ pub(crate) const SHOW: &[Argument] = &[
         "pairs",
         Form::Flag,
         "Only requests, each followed by its reply, in the order of the replies",
+    ),
+    (
+        "exchanges",
+        Form::Flag,
+        "Print a request and its reply on one line, with each field by its name",
+    ),
+    (
+        "where",
+        Form::Optional("EXPRESSION"),
+        "Only requests, each with its reply, that meet this, such as 'READ && reply == EOF'",
+    ),
+    (
+        "handle-of",
+        Form::Optional("PATH"),
+        "Only OPENs and OPENDIRs of this path and requests through their handles, with their replies",
+    ),
+    (
+        "stat",
+        Form::Flag,
+        "Print how many requests of each kind there are, their bytes, and how long they took",
     ),
     (
         "overtaken",

@@ -12,7 +12,7 @@ ghost use Rattle.sftp_options.specs.Options.{IsAuditAsked, IsAuditRequest, Lacks
 use crate::arguments::{
     AUDIT, Argument, BLANK, DIFF, EXPORT, Form, IMPORT, INFER, MAKE, RAISE, SERVE, SHOW,
 };
-use crate::{help, importing, profiles, searching, together};
+use crate::{help, importing, profiles, searching, several, together};
 use clap::error::ErrorKind;
 use clap::{Arg, ArgAction, ArgMatches, Command, Error, value_parser};
 use sftp_files::{
@@ -20,7 +20,7 @@ use sftp_files::{
 };
 use sftp_overlapping::TogetherOptions;
 use sftp_vary::{Freedoms, Style, Variation, Words};
-use sftp_verdicts::{AuditOptions, InferOptions, octal};
+use sftp_verdicts::{AuditOptions, EachOptions, InferOptions, octal};
 use std::alloc::{AllocError, Global};
 
 /// What a command line asks for.
@@ -32,6 +32,8 @@ pub enum Request<'a> {
     Audit(AuditOptions<'a>),
     /// Audit sessions that overlapped, together.
     AuditTogether(TogetherOptions<'a>),
+    /// Audit the sessions of several transcripts, each by itself.
+    AuditEach(EachOptions<'a>),
     /// Infer a tree from a session, and audit the session with it.
     Infer(InferOptions<'a>),
     /// Write the blank tree to a file.
@@ -166,7 +168,10 @@ fn request_of<'a>(
     alloc: Global,
     matches: &ArgMatches<'a>,
 ) -> Result<Option<Request<'a>>, AllocError> {
-    match together::request_of(alloc, matches)? {
+    if let Some(request) = together::request_of(alloc, matches)? {
+        return Ok(Some(request));
+    }
+    match several::request_of(alloc, matches)? {
         Some(request) => Ok(Some(request)),
         None => Ok(requested(matches)),
     }
@@ -214,6 +219,10 @@ fn show_options<'a>(given: &ArgMatches<'a>) -> Option<ShowOptions<'a>> {
         in_pairs: given.get_flag("pairs"),
         marks: given.get_flag("overtaken"),
         is_json: given.get_flag("json"),
+        filter: given.get_str("where"),
+        handle_of: given.get_str("handle-of"),
+        in_exchanges: given.get_flag("exchanges"),
+        in_figures: given.get_flag("stat"),
     })
 }
 
@@ -363,6 +372,7 @@ fn audit_options<'a>(given: &ArgMatches<'a>) -> Option<AuditOptions<'a>>
         profile: profiles::profile_of(given),
         umask: value(given, "umask"),
         says_progress: given.get_flag("progress"),
+        is_named: false,
     })
 }
 
@@ -488,14 +498,12 @@ fn new_argument<'a>(
     Ok(match form {
         Form::Flag => arg.long(name).action(ArgAction::SetTrue),
         Form::Place(label) => valued(arg, label).required(true),
+        Form::Places(label) => arg.value_name(label).num_args(1..),
         Form::Required(label) => valued(arg.long(name), label).required(true),
         Form::Optional(label) => valued(arg.long(name), label),
         Form::Number(label) => { valued(arg.long(name), label).value_parser(value_parser!(u64)) }
         Form::OneOf(label, values) => valued(arg.long(name), label).value_parser(values),
         Form::SomeOf(label, values) => listed(arg.long(name), label, values),
-        Form::Unless(label, other) => {
-            return valued(arg.long(name), label).required_unless_present(other);
-        }
         Form::With(label, other) => return valued(arg.long(name), label).requires_arg(other),
         Form::NumberWith(label, other) => {
             return valued(arg.long(name), label)
@@ -503,13 +511,13 @@ fn new_argument<'a>(
                 .requires_arg(other);
         }
         Form::Several(label, other, excluded) => {
-            return several(arg.long(name), label, other, excluded);
+            return several_values(arg.long(name), label, other, excluded);
         }
     })
 }
 
 /// The argument with some values, which needs another one and can be given with none of those.
-fn several<'a>(
+fn several_values<'a>(
     arg: Arg<'a>,
     label: &'a str,
     other: &'a str,

@@ -170,7 +170,28 @@ how long the request took. With this or any of --id, --path, --handle, --records
 reply that came before the reply to an earlier request ends in 'overtook' and the number of that request's record.
 
 PATH and HANDLE are texts as 'show' prints them, without the quotes. A-B may be A-, -B or A. Several selections select
-what meets them all. With --pairs, requests without a reply come last.
+what meets them all. With --pairs, requests without a reply come last. If nothing is selected, the status is 1.
+
+With --exchanges, a line has a request and its reply, each with the number of its record and its fields by name:
+
+  7 READ id=3 handle=\"h\" offset=4 length=4 -> 8 STATUS code=1 took 0.000120
+
+EXPRESSION is made of conditions, with '!', '&&', '||' and parentheses:
+
+  READ, DATA, EOF            the request or the reply is this packet, or the reply has this code
+  offset                     there is such a field, with a name of --json: that of the request, else that of the reply
+  offset > 1e6               ==, !=, <, <=, >, >= and a number (0x.. hexadecimal, 0.. octal); false without the field
+  path == \"/f\"               ==, != or ~ (contains) and a text as 'show' prints it; path_length is how long it is
+  reply != EOF, code == EOF  ==, != and the name of a packet or of a code
+  flags ~ CREAT              the flag is set
+  reply.handle, request.id   the field of the reply or of the request alone
+
+--handle-of follows a file: through each handle that an OPEN or an OPENDIR of PATH gets, until it is closed.
+
+With --stat, a line has the figures of each kind of request that is selected: how many there are, how many were refused
+by a STATUS other than OK and EOF, how many have no reply, and the bytes of the requests' packets, of the replies' and
+of the data in them; with --times also how long they took: what half of them and 99 of 100 did not exceed, and the
+longest, and then the ten slowest. What was at most in flight and open at a time is of the whole session.
 
 With --explain, a line on standard error says where a malformed file is so: the field of the fault, and the place of its
 first byte in the file, from 0.
@@ -314,6 +335,17 @@ made a later reply right that is found wrong, or wrong that is not. Records have
 transcript, which is read again for each finding, so it cannot be a pipe. A session with a finding is refused: the
 status is 1, and --out writes nothing. Each finding is as if the earlier ones were not there: it may follow from what a
 server got wrong before.
+
+With several transcripts, by FILE... or --transcripts-from LIST ('-' is standard input), each is judged by itself from
+the tree, which is read once. Each has a line that begins with its name, in the order given:
+
+  one.transcript: accepted 812 requests
+  two.transcript: refused record 11: NotAllowed
+  cut.transcript: malformed: record 3: Truncated
+  none.transcript: cannot be read: No such file or directory (os error 2)
+
+The status is the worst of all. --json prints an object for each, --progress how many are done; --out, --keep-going and
+--tree unknown are for one transcript alone, and --explain needs --json.
 
 With --together, the sessions of all FILEs, which overlapped on one tree, are judged by one order of all their requests.
 Of each session there is a file NAME.transcript and a file NAME.times, and the order has just these names. It prints

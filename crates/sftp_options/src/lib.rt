@@ -8,6 +8,7 @@ mod importing;
 mod profiles;
 mod requests;
 mod searching;
+mod several;
 mod together;
 
 pub use command_line::{Request, parse};

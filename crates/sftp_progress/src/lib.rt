@@ -3,11 +3,13 @@
 #![tactic(auto)]
 
 mod amounts;
+mod paces;
 mod progress;
 mod reaches;
 mod records;
 mod tracked;
 
+pub use paces::Pace;
 pub use progress::{Console, Progress};
 pub use reaches::Task;
 pub use tracked::Tracked;

@@ -8,13 +8,13 @@ use std::time::{Clock, Duration, Instant};
 use std::{fs, io};
 
 /// How many milliseconds nothing is said.
-const QUIET: u64 = 2_000;
+pub(crate) const QUIET: u64 = 2_000;
 
 /// How many milliseconds a line stays on a terminal before the next one takes its place.
 const ON_TERMINAL: u64 = 500;
 
 /// How many milliseconds it is from one line to the next elsewhere.
-const ELSEWHERE: u64 = 10_000;
+pub(crate) const ELSEWHERE: u64 = 10_000;
 
 /// More spaces than a line has characters.
 const SPACES: &str =
@@ -94,7 +94,7 @@ fn size_of<R: Files>(rt: &R, name: Option<&str>) -> Option<u64> {
 }
 
 /// When so many milliseconds are over, if the clock says it.
-fn after<R: Clock>(rt: &R, milliseconds: u64) -> Option<Instant> {
+pub(crate) fn after<R: Clock>(rt: &R, milliseconds: u64) -> Option<Instant> {
     match Instant::now(rt) {
         Ok(now) => now.checked_add(Duration::from_millis(milliseconds)),
         Err(_) => None,
@@ -149,7 +149,7 @@ impl<R: Files + AllocGlobal + Clock, E: Write> Progress<'_, R, E> {
 }
 
 /// Whether this moment is over.
-fn is_over<R: Clock>(rt: &R, moment: Instant) -> bool {
+pub(crate) fn is_over<R: Clock>(rt: &R, moment: Instant) -> bool {
     match Instant::now(rt) {
         Ok(now) => now >= moment,
         Err(_) => false,
@@ -162,7 +162,7 @@ fn spaces(count: usize) -> &'static str {
 }
 
 /// Writes a text. Nobody misses it if the stream cannot be written.
-fn say<E: Write, D: Display + Drop>(errors: &mut E, text: D) {
+pub(crate) fn say<E: Write, D: Display + Drop>(errors: &mut E, text: D) {
     let _ = put(errors, text);
 }
 

@@ -5,6 +5,7 @@
 ghost use Rattle.std.specs.Prelude.{◌≤◌};
 ghost use Rattle.sftp_tool.specs.Performed.{Performs};
 
+mod pipes;
 mod subcommands;
 
 use sftp_commands::{Faulty, ReadFiles};
@@ -30,6 +31,8 @@ pub const VERSION: &str = "0.2.0";
 /// - 3: a file or a stream cannot be read or written, or memory ran out.
 ///
 /// With status 2 or 3 the reason is written to `errors`. If `errors` cannot be written, the status is the same.
+/// If a reader closed the pipe that `output` is, nothing is said: `show` and the help then end with status 0, and
+/// `diff` with 1.
 /// `output` is flushed, unless a session stops because a stream fails or memory runs out. Only `serve`, `make` and
 /// `import` read `input`. Where `errors` is a terminal, `audit`, `diff`, `import` and `export` say there how far they
 /// are, while that takes more than two seconds. `serve` and `import` refuse an `input` that is a terminal, `export` an
@@ -70,6 +73,7 @@ where
     let outcome = match parse(rt.alloc(), version, words) {
         Ok(request) => {
             let ending = perform_request(rt, &request, input, output, errors);
+            let ending = pipes::quiet(&request, ending);
             let explained = explained(rt, &request, ending, output, errors);
             drop(request);
             explained
@@ -172,6 +176,7 @@ where
             sftp_serving::serve(rt, options, *style, input, output, errors)
         }
         Request::Audit(files) => subcommands::audit(rt, files, output, errors),
+        Request::AuditEach(options) => sftp_auditing::audit_each(rt, options, output, errors),
         Request::AuditTogether(options) => {
             sftp_overlapping::audit_together(rt, options, output)
         }
@@ -183,7 +188,7 @@ where
             file,
             keeping,
         } => sftp_commands::raise(rt, tree, *to, file, *keeping),
-        Request::Show(options) => sftp_commands::show(rt, options, output),
+        Request::Show(options) => subcommands::show(rt, options, output, errors),
         Request::Make { file, keeping } => sftp_commands::make(rt, file, *keeping, input),
         Request::Diff {
             old,

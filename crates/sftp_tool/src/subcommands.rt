@@ -5,7 +5,9 @@ ghost use Rattle.sftp_files.specs.Failures.{IsUnwritten};
 ghost use Rattle.sftp_verdicts.specs.Verdicts.{IsAuditStatus};
 
 use sftp_audit::blank_tree;
-use sftp_files::{Ending, Failure, Keeping, System, print, write_last};
+use sftp_files::{
+    Ending, Failure, Keeping, Named, ShowOptions, System, print, write_flushed, write_last,
+};
 use sftp_verdicts::{AuditOptions, InferOptions};
 use std::io::{IsTerminal, Write};
 use std::time::Clock;
@@ -52,6 +54,21 @@ pub(crate) fn audit<'a, R: System + Clock, O: Write, E: Write + IsTerminal>(
         return Err(Failure::of_misuse(rt.alloc(), NEEDS_TREE));
     }
     sftp_inferring::infer(rt, &options_of_audit(files), output, errors)
+}
+
+/// Shows a file. If nothing of it is what was asked for, standard error says so.
+pub(crate) fn show<'a, R: System, O: Write, E: Write>(
+    rt: &R,
+    options: &ShowOptions<'a>,
+    output: &mut O,
+    errors: &mut E,
+) -> Result<Ending, Failure<'a>> {
+    let ending = sftp_commands::show(rt, options, output)?;
+    if let Ending::Unmatched = ending {
+        let name = Named(options.file);
+        let _ = write_flushed(errors, format_args!("sftpv3: nothing in {name} matches\n"));
+    }
+    Ok(ending)
 }
 
 /// Writes the blank tree to the file `name`.

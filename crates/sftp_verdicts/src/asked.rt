@@ -34,6 +34,30 @@ pub struct AuditOptions<'a> {
     pub umask: Option<&'a str>,
     /// Whether standard error says how far the audit is, also where it is no terminal.
     pub says_progress: bool,
+    /// Whether what is said of the session begins with the name of its transcript.
+    pub is_named: bool,
+}
+
+impl<'a> AuditOptions<'a> {
+    /// The name of the transcript, if what is said of the session begins with it.
+    pub fn shown_name(&self) -> Option<&'a str> {
+        if self.is_named {
+            Some(self.transcript)
+        } else {
+            None
+        }
+    }
+}
+
+/// The options of `audit` with several transcripts.
+#[derive(Drop)]
+pub struct EachOptions<'a> {
+    /// The options of the audit of each. The transcript is that of `--transcript`; without that option it has no name.
+    pub asked: AuditOptions<'a>,
+    /// The names of transcripts.
+    pub names: Vec<&'a str>,
+    /// The name of a file with further names, one a line.
+    pub list: Option<&'a str>,
 }
 
 /// The options of `infer`, and those of `audit` that go with them.

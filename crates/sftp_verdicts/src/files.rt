@@ -85,6 +85,34 @@ impl<'a, R: Files> Opens<'a> for NamedFile<'_, '_, 'a, R> {
     }
 }
 
+/// A file whose bytes are held in memory.
+#[derive(Clone, Copy)]
+pub struct Held<'h> {
+    path: &'h str,
+    bytes: &'h [u8],
+}
+
+impl<'h> Held<'h> {
+    /// These bytes, which are those of the file at this path.
+    pub fn new(path: &'h str, bytes: &'h [u8]) -> Held<'h> {
+        Held { path, bytes }
+    }
+}
+
+impl<'a, 'h> Opens<'a> for Held<'h> {
+    type File = &'h [u8];
+
+    ghost bytes = { λ held. Some held.bytes.now };
+
+    fn path(&self) -> &str {
+        self.path
+    }
+
+    fn open(&self) -> Result<&'h [u8], Failure<'a>> {
+        Ok(self.bytes)
+    }
+}
+
 /// The file of a name, if there is one, which is made or replaced. Nothing is known of its bytes.
 #[derive(Drop)]
 pub struct StoredFile<'r, 'a, R> {

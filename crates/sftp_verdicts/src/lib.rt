@@ -8,8 +8,8 @@ mod objects;
 mod refusals;
 mod umasks;
 
-pub use asked::{AuditOptions, InferOptions, TRANSCRIPT_LOST};
-pub use files::{NamedFile, Opens, StoredFile, Stores};
-pub use objects::{object_of, parts_of_line, print_object, whole_lines};
+pub use asked::{AuditOptions, EachOptions, InferOptions, TRANSCRIPT_LOST};
+pub use files::{Held, NamedFile, Opens, StoredFile, Stores};
+pub use objects::{named_object_of, object_of, parts_of_line, print_object, whole_lines};
 pub use refusals::{numbered, record_of};
 pub use umasks::{asked_profile, octal};

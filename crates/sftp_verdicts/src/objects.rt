@@ -15,6 +15,21 @@ pub fn object_of<'o, O: Write>(verdict: &str, output: &'o mut O) -> JsonLines<'o
     json
 }
 
+/// The same of a session whose transcript has this name, which comes first, if it has one.
+pub fn named_object_of<'o, O: Write>(
+    name: Option<&str>,
+    verdict: &str,
+    output: &'o mut O,
+) -> JsonLines<'o, O> {
+    let mut json = JsonLines::new(output, usize::MAX);
+    json.open();
+    if let Some(name) = name {
+        json.word("name", name);
+    }
+    json.word("verdict", verdict);
+    json
+}
+
 /// Ends an object, and prints it as the last step of a run.
 ///
 /// # Errors

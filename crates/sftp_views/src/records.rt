@@ -13,6 +13,8 @@ pub(crate) struct Recorded {
     pub(crate) length: usize,
     /// When it was there, in nanoseconds from the start on, if that is known.
     pub(crate) time: Option<u64>,
+    /// Whether it is a request to the file that is followed.
+    pub(crate) is_followed: bool,
 }
 
 impl Recorded {
