@@ -25,11 +25,11 @@ pub(crate) enum Form<'a> {
     OneOf(&'a str, &'a [&'a str]),
     /// `--NAME VALUE,...`, which are some of these.
     SomeOf(&'a str, &'a [&'a str]),
-    /// `--NAME VALUE`, which can be given only together with the argument of this name.
-    With(&'a str, &'a str),
+    /// `--NAME VALUE`, which needs the argument of this name and can be given with none of those.
+    With(&'a str, &'a str, &'a [&'a str]),
     /// The same of a number below 2^64.
-    NumberWith(&'a str, &'a str),
-    /// `--NAME VALUE VALUE ..`, which needs the argument of this name and can be given with none of those.
+    NumberWith(&'a str, &'a str, &'a [&'a str]),
+    /// The same of several values.
     Several(&'a str, &'a str, &'a [&'a str]),
 }
 
@@ -160,12 +160,12 @@ pub(crate) const AUDIT: &[Argument] = &[
     ),
     (
         "order",
-        Form::With("FILE", "together"),
+        Form::With("FILE", "together", NOT_TOGETHER),
         "With --together: the order of all requests, which is judged",
     ),
     (
         "tolerance",
-        Form::NumberWith("US", "together"),
+        Form::NumberWith("US", "together", NOT_TOGETHER),
         "With --together: how many microseconds times of two sessions may be wrong, 0 by default",
     ),
     (

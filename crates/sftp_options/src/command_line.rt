@@ -504,30 +504,27 @@ fn new_argument<'a>(
         Form::Number(label) => { valued(arg.long(name), label).value_parser(value_parser!(u64)) }
         Form::OneOf(label, values) => valued(arg.long(name), label).value_parser(values),
         Form::SomeOf(label, values) => listed(arg.long(name), label, values),
-        Form::With(label, other) => return valued(arg.long(name), label).requires_arg(other),
-        Form::NumberWith(label, other) => {
-            return valued(arg.long(name), label)
-                .value_parser(value_parser!(u64))
-                .requires_arg(other);
+        Form::With(label, other, excluded) => {
+            return with_others(valued(arg.long(name), label), other, excluded);
+        }
+        Form::NumberWith(label, other, excluded) => {
+            let arg = valued(arg.long(name), label).value_parser(value_parser!(u64));
+            return with_others(arg, other, excluded);
         }
         Form::Several(label, other, excluded) => {
-            return several_values(arg.long(name), label, other, excluded);
+            let arg = arg.long(name).value_name(label).num_args(1..);
+            return with_others(arg.action(ArgAction::Append), other, excluded);
         }
     })
 }
 
-/// The argument with some values, which needs another one and can be given with none of those.
-fn several_values<'a>(
+/// The argument, which needs another one and can be given with none of those.
+fn with_others<'a>(
     arg: Arg<'a>,
-    label: &'a str,
     other: &'a str,
     excluded: &[&'a str],
 ) -> Result<Arg<'a>, AllocError> {
-    let arg = arg
-        .value_name(label)
-        .num_args(1..)
-        .action(ArgAction::Append)
-        .requires_arg(other)?;
+    let arg = arg.requires_arg(other)?;
     arg.conflicts_with_all(excluded)
 }
 
