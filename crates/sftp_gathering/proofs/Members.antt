@@ -46,7 +46,7 @@ pub one_session : (c d : SetClock) (files : SessionFiles) (s t : List TimedEvent
 one_session c d files s t a b =
     let same = same_times files.times a.beginning b.beginning a.entries b.entries a.times_are b.times_are in
     let events = records_are_one_lem a.session_is.events b.session_is.events files.transcript
-        a.session_is.recorded b.session_is.recorded in
+    a.session_is.recorded b.session_is.recorded in
     let start = ap start_of same.0 in
     a.session_is.session_is
     ∙ ap (λ (n : ℕ). timed n a.entries a.session_is.events) start

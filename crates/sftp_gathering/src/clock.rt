@@ -6,8 +6,5 @@ pub enum SetClock {
     /// Dates, as the machine had them: nanoseconds from 1970 on.
     Dates,
     /// The clock of a machine from one boot on. The two numbers are the halves of the boot's identity.
-    SinceBoot {
-        high: u64,
-        low: u64,
-    },
+    SinceBoot { high: u64, low: u64 },
 }

@@ -22,10 +22,12 @@ pub fn read_places(alloc: Global, bytes: &[u8], names: &[&[u8]]) -> Result<Vec<u
     ensures refused { IfErr result (IsPlacesFault bytes.now (map (λ name. name.now) names.now)) }
 {
     match read_order(alloc, bytes) {
-        Ok(Order {
-            names: found,
-            places,
-        }) => {
+        Ok(
+            Order {
+                names: found,
+                places,
+            },
+        ) => {
             let are_same = are_same(found.as_slice(), names);
             drop(found);
             if are_same {

@@ -111,9 +111,7 @@ fn add_opened<F: Read + Drop>(
             drop(records);
             added
         }
-        Err(error) => Err(MemberError::Session(SessionError::Events(
-            AuditError::from(error),
-        ))),
+        Err(error) => Err(MemberError::Session(SessionError::Events(AuditError::from(error)))),
     }
 }
 

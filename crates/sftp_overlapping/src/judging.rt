@@ -112,8 +112,10 @@ fn read_named<'a, T>(
         (λ places. HasPlaces bytes.now (map (λ member. member.name.now) members.now) places.items) }
     ensures refused { IfErr result (IsPlacesFault bytes.now (map (λ member. member.name.now) members.now)) }
 {
-    let names: Result<Vec<&[u8]>, AllocError> =
-        members.iter().map(|member| member.name.as_bytes()).collect(alloc);
+    let names: Result<Vec<&[u8]>, AllocError> = members
+        .iter()
+        .map(|member| member.name.as_bytes())
+        .collect(alloc);
     match names {
         Ok(names) => {
             let read = read_places(alloc, bytes, names.as_slice());

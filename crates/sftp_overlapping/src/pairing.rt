@@ -146,9 +146,7 @@ fn member_of<'r, 'a, R: System>(
 
 /// Whether two files are the times and the transcript of one session.
 fn are_pair(first: &Piece<'_>, second: &Piece<'_>) -> bool {
-    first.session == second.session
-        && first.part == Part::Times
-        && second.part == Part::Transcript
+    first.session == second.session && first.part == Part::Times && second.part == Part::Transcript
 }
 
 /// The file at this path.

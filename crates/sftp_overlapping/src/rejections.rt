@@ -10,10 +10,7 @@ use std::alloc::AllocError;
 #[derive(Clone, Copy)]
 pub(crate) enum Cause {
     /// The session of this number is none, whatever the order.
-    Session {
-        session: usize,
-        refusal: Refusal,
-    },
+    Session { session: usize, refusal: Refusal },
     /// The order is none.
     Order(OrderFault),
 }

@@ -19,15 +19,13 @@ use std::io::Write;
 // ---- malformed files
 
 /// The file of times of this name has this fault.
-pub(crate) fn of_times<'a>(alloc: Global, name: &str, fault: TimesError) -> Failure<'a>
-{
+pub(crate) fn of_times<'a>(alloc: Global, name: &str, fault: TimesError) -> Failure<'a> {
     let name = Named(name);
     Failure::of_text(format!(in alloc; "{name}: {fault}"))
 }
 
 /// The times of this file are on another clock than those of the sessions before.
-pub(crate) fn of_clock<'a>(alloc: Global, name: &str) -> Failure<'a>
-{
+pub(crate) fn of_clock<'a>(alloc: Global, name: &str) -> Failure<'a> {
     let name = Named(name);
     Failure::of_text(format!(in alloc;
         "{name}: its times are of another boot or form than those before it, so they cannot be compared"
@@ -35,36 +33,31 @@ pub(crate) fn of_clock<'a>(alloc: Global, name: &str) -> Failure<'a>
 }
 
 /// The file of times of this name has no entry for this record.
-pub(crate) fn of_untimed<'a>(alloc: Global, name: &str, record: u64) -> Failure<'a>
-{
+pub(crate) fn of_untimed<'a>(alloc: Global, name: &str, record: u64) -> Failure<'a> {
     let name = Named(name);
     Failure::of_text(format!(in alloc; "{name}: entry {record}: Short"))
 }
 
 /// The file of times of this name has an entry more than there are records.
-pub(crate) fn of_spare<'a>(alloc: Global, name: &str, entry: u64) -> Failure<'a>
-{
+pub(crate) fn of_spare<'a>(alloc: Global, name: &str, entry: u64) -> Failure<'a> {
     let name = Named(name);
     Failure::of_text(format!(in alloc; "{name}: entry {entry}: Trailing"))
 }
 
 /// The transcript of this name has this fault.
-pub(crate) fn of_transcript<'a>(alloc: Global, name: &str, fault: TranscriptError) -> Failure<'a>
-{
+pub(crate) fn of_transcript<'a>(alloc: Global, name: &str, fault: TranscriptError) -> Failure<'a> {
     let name = Named(name);
     Failure::of_text(format!(in alloc; "{name}: {fault}"))
 }
 
 /// The order of this name has this fault.
-pub(crate) fn of_order<'a>(alloc: Global, name: &str, fault: OrderError) -> Failure<'a>
-{
+pub(crate) fn of_order<'a>(alloc: Global, name: &str, fault: OrderError) -> Failure<'a> {
     let name = Named(name);
     Failure::of_text(format!(in alloc; "{name}: {fault}"))
 }
 
 /// The order of this name is one of other sessions.
-pub(crate) fn of_other_sessions<'a>(alloc: Global, name: &str) -> Failure<'a>
-{
+pub(crate) fn of_other_sessions<'a>(alloc: Global, name: &str) -> Failure<'a> {
     let name = Named(name);
     Failure::of_text(format!(in alloc; "{name}: the order is of other sessions"))
 }
