@@ -88,7 +88,7 @@ frame s end request reply name good allowed apart given = elim allowed.step [
 
 -- ==== A leave.
 
-joint-is_of : (client : ℕ) (h : List ℕ) → is_of client (joint_handle client h) ≡ true
+pub joint-is_of : (client : ℕ) (h : List ℕ) → is_of client (joint_handle client h) ≡ true
 joint-is_of client h =
     (bytes_decides (take 4 (joint_handle client h)) (uint32 client)).1 (take_at (uint32 client) h 4 (wide32.len client))
 
@@ -196,7 +196,7 @@ left-good client s good =
 abbrev pub open_in : State → List ℕ → Option Open
 open_in s name = open_at s.handles name
 
-some-or-none : (o : Option Open) → (o ≡ None) ⊎ (o ≢ None)
+pub some-or-none : (o : Option Open) → (o ≡ None) ⊎ (o ≢ None)
 some-or-none None = inl refl
 some-or-none (Some it) = inr (λ none. cc)
 
