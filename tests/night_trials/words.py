@@ -14,7 +14,7 @@ def usage(steps, place):
     place.check(steps, "a folder that is not there: status 3", 3, "No such file", folders=[place.room / "absent"])
     for words in (["--memory", "0"], ["--audit-seconds", "x"], ["--longest", "-1"], ["--longest", "nan"],
                   ["--audit-seconds", "9999999999"], ["--look-seconds", "9999999999"], ["--memory", str(1 << 61)]):
-        place.check(steps, f"{' '.join(words)}: status 2", 2, "invalid", words=words)
+        place.check(steps, f"{' '.join(words)}: status 2", 2, f"argument {words[0]}: '{words[1]}' is ", words=words)
     (place.live / "large").write_bytes(bytes(1000))
     place.check(steps, "files of more than a third of --memory: status 3", 3, "a third of --memory", words=["--memory",
                                                                                                      "2000"])

@@ -493,6 +493,7 @@ class Night:
         try:
             return self.judge_all()
         finally:
+            self.tidy()
             self.measure()
 
     def judge_all(self):
