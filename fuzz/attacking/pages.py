@@ -1,7 +1,6 @@
 """Attacks on sftpv3-probe and sftpv3-page, by another user of the machine and by the server under test."""
 import json
 import os
-import re
 import shutil
 import subprocess
 import tarfile
@@ -160,32 +159,23 @@ def a_name_fills_the_screen(field):
                 yield f"{name[:2]!r} {words}: {len(done.stderr)} bytes, {done.stderr[:40]!r}"
 
 
-@attack("make", is_small=True)
-def a_name_runs_in_a_makefile(field):
-    """What the documents give to make runs no part of a transcript's name, says that one was left out, and waits for no
-    pipe."""
-    page = Path(TOP, "docs/USING.md").read_text(encoding="utf-8")
-    field.put("Makefile", re.search(r"(?s)```make[^\n]*\n(.*?)```", page)[1].encode())
-    field.blank()
+@attack(is_small=True)
+def a_name_runs_beside_an_audit(field):
+    """An audit of a folder runs no part of a transcript's name, waits for no pipe, and says which name is no UTF-8."""
+    start = field.blank()
     os.mkdir(field.path("records"))
-    field.put("records/good.transcript", OPENED)
     os.mkfifo(field.path("records/pipe.transcript"))
-    make = ["make", "-k", "-j", "2"]
-    search = {**os.environ, "PATH": f"{os.path.dirname(field.program)}:{os.environ['PATH']}"}
-    for name in (None, *HOSTILE_NAMES):
-        if name:
-            field.put(f"records/{name}.transcript", OPENED)
-            field.put("records/a", b"")
-        done = subprocess.run(make, cwd=field.folder, env=search, capture_output=True, timeout=20)
-        if os.path.lexists(field.path("ran")):
-            yield f"{name!r}: a command of the name ran"
-            os.remove(field.path("ran"))
-        if (done.returncode == 0) != (name is None):
-            yield f"{name!r}: status {done.returncode}, {done.stderr[-200:]!r}"
-        if not field.read("records/good.verdict").startswith(b"accepted"):
-            yield "the session is not audited"
-        if name:
-            os.remove(field.path(f"records/{name}.transcript"))
+    field.put("records/good.transcript", OPENED)
+    for name in HOSTILE_NAMES:
+        field.put(f"records/{name}.transcript", OPENED)
+    words = [Path(TOP, "clients/audits"), "--tree", start, "records"]
+    done = subprocess.run(words, cwd=field.folder, env={**os.environ, "SFTPV3": field.program}, capture_output=True,
+                          timeout=20)
+    yield from wrong_status(done, 3)
+    if os.path.lexists(field.path("ran")):
+        yield "a command of a name ran"
+    if done.stdout.count(b": accepted ") != len(HOSTILE_NAMES) or b"takes no name that is not UTF-8" not in done.stdout:
+        yield f"not all are audited: {done.stdout[-200:]!r}"
 
 
 SESSION = [*BEGUN, (CLIENT, request(1, "STAT", b"/\x01\xff\"\\\n")), (SERVER, codec.status(1, 0, b"\x1b[2J\xff"))]

@@ -4,6 +4,7 @@ from __future__ import annotations
 import argparse
 import os
 import re
+import stat
 import sys
 from collections.abc import Iterable
 
@@ -37,12 +38,23 @@ def share(text: str) -> Share:
     return Share(int(found[1]), int(found[2]))
 
 
+def waits(name: str) -> bool:
+    """Whether an audit of this file would wait for who writes into it: a pipe, a socket or a device."""
+    try:
+        mode = os.stat(name).st_mode
+    except OSError:
+        # the audit says why
+        return False
+    return not (stat.S_ISREG(mode) or stat.S_ISDIR(mode))
+
+
 def below(folder: str) -> list[str]:
-    """The transcripts in a folder and in those below it, in the order of their names."""
+    """The transcripts in a folder and in those below it, in the order of their names; no pipes, sockets or devices."""
     found = []
     for place, folders, names in os.walk(folder, onerror=fail):
         folders.sort()
-        found += [os.path.join(place, name) for name in sorted(names) if TRANSCRIPT.fullmatch(name)]
+        here = [os.path.join(place, name) for name in sorted(names) if TRANSCRIPT.fullmatch(name)]
+        found += [name for name in here if not waits(name)]
     if not found:
         raise Unfit(f"{wording.line(folder)}: it has no file NAME.transcript")
     return found

@@ -69,7 +69,7 @@ def one_of(*known):
             raise argparse.ArgumentTypeError(f"{text!r} is none of {', '.join(known)}{meant(text, known)}")
         return text
     # what completions offer
-    word.known = sorted(known)
+    word.known = known
     return word
 
 
