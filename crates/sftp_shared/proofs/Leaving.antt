@@ -38,7 +38,7 @@ held : (a b c : Bool) → (b ≡ true → c ≡ true) → (a || b) ≡ true → 
 held true b c so is = refl
 held false b c so is = so is
 
-settled-again : (t : Tree) (xs ys : Handles)
+pub settled-again : (t : Tree) (xs ys : Handles)
     → ((n : ℕ) → is_pinned (pins_of ys) n ≡ true → is_pinned (pins_of xs) n ≡ true)
     → settled (settled t xs).tree ys ≡ settled t ys
 unfolding retain
@@ -74,7 +74,7 @@ without-closed client handles h order own =
         sym (kept-none client n (open_at handles n) (ap (is_of client) (sym same) ∙ own))
     by n false miss = refl
 
-leave-after : (client : ℕ) (s : State) (h : List ℕ) → Good s → is_of client h ≡ true
+pub leave-after : (client : ℕ) (s : State) (h : List ℕ) → Good s → is_of client h ≡ true
     → left_by client (settled s.tree (without_open s.handles h)) ≡ left_by client s
 leave-after client s h good own =
     settled-again s.tree (without_open s.handles h) (without_client client (without_open s.handles h))
@@ -118,7 +118,7 @@ record Closed (client : ℕ) (hs : List (List ℕ)) (s : State) : Type 0 where
   shut : AllByRecursion (λ h. open_at end.handles h ≡ None) hs
   less : (n : List ℕ) → open_at s.handles n ≡ None → open_at end.handles n ≡ None
 
-none-of : (b : Bool) (o : Option Open) → o ≡ None → cond b None o ≡ None
+pub none-of : (b : Bool) (o : Option Open) → o ≡ None → cond b None o ≡ None
 none-of true o none = refl
 none-of false o none = none
 
@@ -197,7 +197,7 @@ of-names client P (e ∷ es) all = by (is_of client e.0) refl all (of-names clie
     by false is all rest = ((λ own. absurd (both_ways (is_of client e.0) is own)), rest all)
 
 -- where nothing of a client is open, it leaves the state as it is
-leave-nothing : (client : ℕ) (s : State) → Good s
+pub leave-nothing : (client : ℕ) (s : State) → Good s
     → ((n : List ℕ) → is_of client n ≡ true → open_at s.handles n ≡ None) → left_by client s ≡ s
 leave-nothing client s good none =
     ap (settled s.tree)

@@ -88,11 +88,11 @@ frame s end request reply name good allowed apart given = elim allowed.step [
 
 -- ==== A leave.
 
-joint-is_of : (client : ℕ) (h : List ℕ) → is_of client (joint_handle client h) ≡ true
+pub joint-is_of : (client : ℕ) (h : List ℕ) → is_of client (joint_handle client h) ≡ true
 joint-is_of client h =
     (bytes_decides (take 4 (joint_handle client h)) (uint32 client)).1 (take_at (uint32 client) h 4 (wide32.len client))
 
-joint-is_other : (client other : ℕ) (h : List ℕ) → client < 2 ^ 32 → other < 2 ^ 32 → (client ≡ other → ⊥)
+pub joint-is_other : (client other : ℕ) (h : List ℕ) → client < 2 ^ 32 → other < 2 ^ 32 → (client ≡ other → ⊥)
     → is_of client (joint_handle other h) ≡ false
 joint-is_other client other h fits fits_other apart = by (is_of client (joint_handle other h)) refl
   where
@@ -117,7 +117,7 @@ pub kept-all : (client : ℕ) (name : List ℕ) (found : Option Open) → is_of 
 kept-all client name None is = refl
 kept-all client name (Some it) is = rw is refl
 
-left-found : (client : ℕ) (s : State) (name : List ℕ) → InOrder bytes_cmp s.handles
+pub left-found : (client : ℕ) (s : State) (name : List ℕ) → InOrder bytes_cmp s.handles
     → open_at (left_by client s).handles name ≡ kept (λ e. not (is_of client e.0)) name (open_at s.handles name)
 left-found client s name order =
     get-retain bytes_cmp nat_list_cmp_total bytes_cmp-same s.handles (λ e. not (is_of client e.0)) name order
@@ -196,7 +196,7 @@ left-good client s good =
 abbrev pub open_in : State → List ℕ → Option Open
 open_in s name = open_at s.handles name
 
-some-or-none : (o : Option Open) → (o ≡ None) ⊎ (o ≢ None)
+pub some-or-none : (o : Option Open) → (o ≡ None) ⊎ (o ≢ None)
 some-or-none None = inl refl
 some-or-none (Some it) = inr (λ none. cc)
 
@@ -261,7 +261,7 @@ given s end request reply name good allowed there = elim allowed.step [
       (subst (λ (s : State). open_at s.handles name ≢ None) done.changed there)
 ]
 
-kept-some : (client : ℕ) (name : List ℕ) (found : Option Open)
+pub kept-some : (client : ℕ) (name : List ℕ) (found : Option Open)
     → kept (λ e. not (is_of client e.0)) name found ≢ None → found ≢ None
 kept-some client name None there none = there refl
 kept-some client name (Some it) there none = cc

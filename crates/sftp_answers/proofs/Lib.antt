@@ -1,0 +1,4 @@
+pub mod Asks
+pub mod Answers
+pub mod Closing
+pub mod Histories

@@ -1,0 +1,3 @@
+-- Sets of sessions as files.
+pub mod Files
+pub mod Gathered
