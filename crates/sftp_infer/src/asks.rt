@@ -27,6 +27,8 @@ pub(crate) enum Asks {
     Blocked,
     /// A link that leads to where no directory is.
     Astray,
+    /// A link that leads to itself.
+    Loops,
 }
 
 /// What it costs to take back that nothing is somewhere, where that was only assumed.
@@ -41,7 +43,7 @@ impl Asks {
         match self {
             Asks::Directory | Asks::Full | Asks::NoFile => Sort::Directory,
             Asks::NoDirectory | Asks::NoLink => Sort::File,
-            Asks::Astray => Sort::Link,
+            Asks::Astray | Asks::Loops => Sort::Link,
             _ => Sort::Unknown,
         }
     }
@@ -54,15 +56,24 @@ impl Asks {
         }
     }
 
+    /// Whether it is asked of a link.
+    fn is_of_link(self) -> bool {
+        matches!(self, Asks::Astray | Asks::Loops)
+    }
+
     /// What this costs of something of this kind; `None` if it is not so.
     fn cost_of_sort(self, sort: Sort) -> Option<u32> {
+        if self.is_of_link() && sort == Sort::Unknown {
+            return Some(WAY);
+        }
         let fits = match self {
             Asks::Something | Asks::Place => return Some(0),
             Asks::Directory | Asks::Full => sort == Sort::Directory,
             Asks::NoDirectory => sort != Sort::Directory,
             Asks::NoFile => sort != Sort::File,
             Asks::NoLink => sort != Sort::Link,
-            Asks::Nothing | Asks::Lost | Asks::Blocked | Asks::Astray => return None,
+            Asks::Nothing | Asks::Lost | Asks::Blocked => return None,
+            Asks::Astray | Asks::Loops => return None,
         };
         if sort == Sort::Unknown {
             return Some(1);
@@ -132,7 +143,7 @@ fn cost_of_unknown(asks: Asks) -> Option<u32> {
     match asks {
         Asks::Lost | Asks::Blocked => None,
         Asks::Place => Some(0),
-        Asks::Astray => Some(WAY),
+        Asks::Astray | Asks::Loops => Some(WAY),
         _ => Some(1),
     }
 }
@@ -150,7 +161,7 @@ fn cost_of_no_entry(asks: Asks, is_assumed: bool) -> Option<u32> {
 fn cost_of_nothing(asks: Asks, is_assumed: bool) -> Option<u32> {
     match asks {
         Asks::Nothing | Asks::Place => Some(0),
-        Asks::Lost | Asks::Blocked | Asks::Astray => None,
+        Asks::Lost | Asks::Blocked | Asks::Astray | Asks::Loops => None,
         _ if is_assumed => Some(RETRACTED),
         _ => None,
     }

@@ -189,10 +189,22 @@ impl World {
             }
             _ => {}
         }
+        self.propose_ways(path, text);
         self.propose_targets(text);
         if path.first() != Some(&b'/') {
             self.propose_home(path, text);
         }
+    }
+
+    /// Proposes that a link is on the way of a path that ends in the same names as the text of the place to which it
+    /// leads.
+    fn propose_ways(&mut self, path: &[u8], text: &[u8]) {
+        let mut absolute = Vec::new(self.alloc);
+        if self.put_absolute(path, &mut absolute).is_err() {
+            self.lacks_memory = true;
+        }
+        self.propose_links(absolute.as_slice(), text);
+        drop(absolute);
     }
 
     /// The contradiction of two places to which a path leads.

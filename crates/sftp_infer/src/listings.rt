@@ -40,7 +40,7 @@ impl World {
         Ok(())
     }
 
-    /// Has what is told be told by the record with this number.
+    /// Notes that the record with this number told what is known.
     fn say(&mut self, number: u64) {
         self.replied = number;
         self.teller = number;

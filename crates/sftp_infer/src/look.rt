@@ -153,7 +153,9 @@ impl<'w> Walk<'w> {
 
     /// Goes along the path of the home first.
     fn begin_at(&mut self, home: &'w [u8]) -> Result<(), NoMemory> {
-        self.waiting.push(self.rest)?;
+        if has_part(self.rest) {
+            self.waiting.push(self.rest)?;
+        }
         self.rest = home;
         self.is_given = false;
         Ok(())

@@ -38,6 +38,11 @@ impl Reason {
             Codes::Either => code == status::NO_SUCH_FILE || code == status::FAILURE,
         }
     }
+
+    /// Whether it holds only of requests that follow a last link.
+    pub(crate) fn is_of_followed(self) -> bool {
+        matches!(self.0, Some(Asks::Astray | Asks::Loops))
+    }
 }
 
 /// A refused request: its first path, whether a last link is followed there, its second path if it has one, and the
@@ -54,6 +59,8 @@ const LOOK: &[Reason] = &[
     Reason(Some(Asks::Nothing), None, Codes::NoSuchFile),
     Reason(Some(Asks::Lost), None, Codes::NoSuchFile),
     Reason(Some(Asks::Blocked), None, Codes::Either),
+    Reason(Some(Asks::Astray), None, Codes::NoSuchFile),
+    Reason(Some(Asks::Loops), None, Codes::Either),
 ];
 
 const SET_SIZE: &[Reason] = &[
@@ -61,6 +68,8 @@ const SET_SIZE: &[Reason] = &[
     Reason(Some(Asks::Directory), None, Codes::Failure),
     Reason(Some(Asks::Lost), None, Codes::NoSuchFile),
     Reason(Some(Asks::Blocked), None, Codes::Either),
+    Reason(Some(Asks::Astray), None, Codes::NoSuchFile),
+    Reason(Some(Asks::Loops), None, Codes::Either),
 ];
 
 /// Of a size beyond the usual limit, which no file may have.
@@ -69,6 +78,8 @@ const SET_LARGE: &[Reason] = &[
     Reason(Some(Asks::Something), None, Codes::Failure),
     Reason(Some(Asks::Lost), None, Codes::NoSuchFile),
     Reason(Some(Asks::Blocked), None, Codes::Either),
+    Reason(Some(Asks::Astray), None, Codes::NoSuchFile),
+    Reason(Some(Asks::Loops), None, Codes::Either),
 ];
 
 const OPEN_MAKING: &[Reason] = &[
@@ -76,6 +87,7 @@ const OPEN_MAKING: &[Reason] = &[
     Reason(Some(Asks::Lost), None, Codes::NoSuchFile),
     Reason(Some(Asks::Blocked), None, Codes::Either),
     Reason(Some(Asks::Astray), None, Codes::NoSuchFile),
+    Reason(Some(Asks::Loops), None, Codes::Either),
 ];
 
 const MAKE: &[Reason] = &[
@@ -89,6 +101,8 @@ const OPENDIR: &[Reason] = &[
     Reason(Some(Asks::NoDirectory), None, Codes::Either),
     Reason(Some(Asks::Lost), None, Codes::NoSuchFile),
     Reason(Some(Asks::Blocked), None, Codes::Either),
+    Reason(Some(Asks::Astray), None, Codes::NoSuchFile),
+    Reason(Some(Asks::Loops), None, Codes::Either),
 ];
 
 const RMDIR: &[Reason] = &[
@@ -102,6 +116,8 @@ const RMDIR: &[Reason] = &[
 const REALPATH: &[Reason] = &[
     Reason(Some(Asks::Lost), None, Codes::NoSuchFile),
     Reason(Some(Asks::Blocked), None, Codes::Either),
+    Reason(Some(Asks::Astray), None, Codes::NoSuchFile),
+    Reason(Some(Asks::Loops), None, Codes::Either),
 ];
 
 const READLINK: &[Reason] = &[
@@ -354,6 +370,10 @@ impl World {
                 let at = self.tell(spot, Sort::Link)?;
                 self.lead_astray(at)
             }
+            Asks::Loops => {
+                let at = self.tell(spot, Sort::Link)?;
+                self.lead_looped(at)
+            }
             _ => done(self.tell(spot, asks.sort())),
         }
     }
@@ -362,6 +382,7 @@ impl World {
     fn grant_target(&mut self, at: usize, asks: Asks) -> Result<(), Stop> {
         match asks {
             Asks::Astray => self.lead_astray(at),
+            Asks::Loops => self.lead_looped(at),
             _ => self.invent_target(at),
         }
     }

@@ -225,8 +225,10 @@ impl World {
         };
         let mut bit: u32 = 1;
         for reason in case.reasons {
-            if let Some(cost) = self.cost_of_reason(old, new, *reason, code) {
-                choice.add(*reason, cost, bit, forced);
+            if case.follows || !reason.is_of_followed() {
+                if let Some(cost) = self.cost_of_reason(old, new, *reason, code) {
+                    choice.add(*reason, cost, bit, forced);
+                }
             }
             bit = bit.saturating_mul(2);
         }

@@ -20,13 +20,13 @@ use std::alloc::Global;
 /// besides, for any session.
 const WORK: u64 = 64;
 
-const FREE_WORK: u64 = 1_000_000;
+const FREE_WORK: u64 = 2_000_000;
 
 /// What is added to how far a pass came that takes refusals, too: it came further than any that does not.
 pub(crate) const HEARD: u64 = 1 << 22;
 
 /// How many bytes of memory all choices may take beside a quarter of those that the session has.
-const FREE_BYTES: u64 = 1 << 22;
+const FREE_BYTES: u64 = 1 << 24;
 
 /// What a step of the search comes to.
 #[derive(Drop)]

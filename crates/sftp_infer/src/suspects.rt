@@ -7,6 +7,7 @@ use crate::look::{Look, next_part};
 use crate::nodes::Sort;
 use crate::places::put_part;
 use crate::reasons::case_of;
+use crate::targets::lengthen;
 use crate::world::World;
 use sftp_path::NoMemory;
 use sftp_wire::{Ask, ByteString};
@@ -177,8 +178,8 @@ impl World {
         }
     }
 
-    /// A target of a link at the place of an entry that leads to another one, of this length if one is told; `None` if
-    /// there is none, and if memory runs out, which is noted.
+    /// What a link in the place of this entry may hold so that it leads to the other one, of this length if one is
+    /// told; `None` if nothing does, and if memory runs out, which is noted.
     pub(crate) fn target_to(
         &mut self,
         at: usize,
@@ -213,16 +214,7 @@ impl World {
             drop(text);
             return Ok(None);
         }
-        self.lengthen(text, length)
-    }
-
-    /// The text with slashes at its end, so that it has this length.
-    fn lengthen(&self, text: Vec<u8>, length: u64) -> Result<Option<Vec<u8>>, Stop> {
-        let mut text = text;
-        for _ in text.len() as u64..length {
-            text.push(b'/')?;
-        }
-        Ok(Some(text))
+        Ok(Some(lengthen(text, length)?))
     }
 
     /// The text of the place of an entry at the start.

@@ -180,6 +180,19 @@ impl World {
         self.lead_invented(at, target)
     }
 
+    /// Has a link lead to itself, or to where no directory is if it is too short for that.
+    pub(crate) fn lead_looped(&mut self, at: usize) -> Result<(), Stop> {
+        let name = Vec::from_slice(self.alloc, self.name_at(self.entry(at).seat))?;
+        let least = name.len() as u64;
+        let length = self.entry(at).length.unwrap_or(least);
+        if length < least {
+            drop(name);
+            return self.lead_astray(at);
+        }
+        let target = lengthen(name, length)?;
+        self.lead_invented(at, target)
+    }
+
     /// Takes the length that a reply shows of a link.
     pub(crate) fn tell_length(&mut self, at: usize, length: u64) -> Result<(), Stop> {
         let known = match self.target(at) {
@@ -233,6 +246,15 @@ impl World {
         }
         None
     }
+}
+
+/// A path with slashes at its end, so that it has this length.
+pub(crate) fn lengthen(path: Vec<u8>, length: u64) -> Result<Vec<u8>, Stop> {
+    let mut path = path;
+    for _ in path.len() as u64..length {
+        path.push(b'/')?;
+    }
+    Ok(path)
 }
 
 /// Appends a name of this length that has a number in it.

@@ -40,6 +40,22 @@ fn without_tail<'t>(one: &'t [u8], other: &'t [u8]) -> Option<(&'t [u8], &'t [u8
 }
 
 impl World {
+    /// Proposes for each name in which two places end that what is above it in the first one is a link to what is above
+    /// it in the other one.
+    pub(crate) fn propose_links(&mut self, one: &[u8], other: &[u8]) {
+        let (mut one, mut other) = (one, other);
+        for _ in 0..DEPTH_LIMIT {
+            match (cut_last(one), cut_last(other)) {
+                (Some((left, name)), Some((right, like))) if name == like => {
+                    one = left;
+                    other = right;
+                    self.propose_to(one, other);
+                }
+                _ => return,
+            }
+        }
+    }
+
     /// Proposes that a directory above one of two files is a link to the one above the other, if both paths end in the
     /// same names.
     pub(crate) fn propose_way(&mut self, at: usize, other: usize) {
