@@ -32,7 +32,7 @@ use Rattle.sftp_files.specs.declared.messages.Failure.{Failure}
 use Rattle.sftp_files.specs.declared.messages.Failure.TheVariants as failures
 use Rattle.sftp_files.specs.Failures.{failure_status, tree_failure, IsTranscriptFailure, IsUnread, IsUnwritten}
 use Rattle.sftp_verdicts.specs.Verdicts.{AccountOf}
-use Rattle.sftp_auditing.specs.Audits.{FaultOf, ToldOf, EndOf, IsAudit, IsSaid, IsSaidAsked}
+use Rattle.sftp_auditing.specs.Audits.{FaultOf, ToldOf, EndOf, IsAnyEnd, IsAudit, IsSaid, IsSaidAsked}
 use Rattle.sftp_auditing.specs.Audits.{IsReportOf, IsReportOfError, IsFailureOf}
 use Rattle.sftp_auditing.specs.Audits.{IsOutcome, accounts_by, fault_asked, uncut}
 use Rattle.sftp_auditing.specs.Starts.{IsStartOf}
@@ -170,6 +170,18 @@ opened_said accounts faults OfEnd tree known of_file (Err (failures.Tree fault))
 opened_said accounts faults OfEnd tree known of_file (Err (failures.Transcript fault)) same said = λ bytes read.
     said bytes (same bytes read)
 opened_said accounts faults OfEnd tree known of_file (Err other) same said = tt
+
+-- what is said of a session whose tree at the end is as it is to be, where that may be any tree
+pub any_end_said : (accounts : AccountOf) (faults : FaultOf) (OfEnd : EndOf) (tree : List ℕ)
+    (known : Option (List ℕ)) (result : Result Ending Failure)
+    → IsSaid accounts faults OfEnd tree known result → IsSaid accounts faults IsAnyEnd tree known result
+any_end_said accounts faults OfEnd tree known (Ok endings.Done) said = λ bytes read.
+    let told = said bytes read in (told.0, told.1, told.2, told.3, tt)
+any_end_said accounts faults OfEnd tree known (Ok endings.Refused) said = λ bytes read. said bytes read
+any_end_said accounts faults OfEnd tree known (Ok other) said = said
+any_end_said accounts faults OfEnd tree known (Err (failures.Tree fault)) said = λ bytes read. said bytes read
+any_end_said accounts faults OfEnd tree known (Err (failures.Transcript fault)) said = λ bytes read. said bytes read
+any_end_said accounts faults OfEnd tree known (Err other) said = tt
 
 -- ---- the failure that an error is
 

@@ -82,6 +82,10 @@ IsAudit accounts faults tells tree known (Err error) follows =
 abbrev pub EndOf : Type 1
 EndOf = Tree → Type 0
 
+-- whatever holds of the tree at the end
+abbrev pub IsAnyEnd : EndOf
+IsAnyEnd end = ⊤
+
 -- the tree file of the end is stored, where this is what was there before and is there now
 abbrev pub IsStoredEnd : Option (List ℕ) → Option (List ℕ) → EndOf
 IsStoredEnd old new end = Becomes old new (picture end)

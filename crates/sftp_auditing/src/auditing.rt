@@ -11,11 +11,12 @@ ghost use Rattle.sftp_auditing.specs.Audits.{accounts_by, uncut, with_umask};
 ghost use Rattle.sftp_auditing.specs.Audits.{IsOutcome, IsAudit, IsResultAsked, IsSaidAsked};
 ghost use Rattle.sftp_auditing.specs.Audits.{IsReportOf, IsReportOfError, IsFailureOf, IsStoredEnd};
 
-use crate::counts::{counts_of, say_accepted};
+use crate::accepting::accepted_before;
+use crate::counts::{Label, counts_of, say_accepted};
 use crate::explaining::explain;
 use crate::going_on::report_findings;
 use crate::starts::start_in_view;
-use crate::verdict_objects::print_refused;
+use crate::verdict_objects::{Beside, print_refused};
 use sftp_audit::{AuditError, Ended, EndedCut, Refusal, audit_cut_tree_by, audit_tree_by};
 use sftp_commands::{LeftOut, is_lost};
 use sftp_files::{BoundedRecords, Ending, Failure, Meter, Repeatable, System, print};
@@ -68,7 +69,10 @@ pub fn audit<'a, R: System + Clock, O: Write, E: Write + IsTerminal>(
 }
 
 /// The options with the umask in their profile.
-fn asked_of<'a>(alloc: Global, files: &AuditOptions<'a>) -> Result<AuditOptions<'a>, Failure<'a>>
+pub(crate) fn asked_of<'a>(
+    alloc: Global,
+    files: &AuditOptions<'a>,
+) -> Result<AuditOptions<'a>, Failure<'a>>
     ensures ok { IfOk result (λ asked. asked ≡ with_umask files.now) }
     ensures err { IfErr result IsUsage }
 {
@@ -100,7 +104,7 @@ fn audit_at<'a, R: System + Clock, O: Write, E: Write + IsTerminal>(
 
 /// Audits the session of these files. The tree file is read and the transcript is opened before either is judged; the
 /// transcript is read as a stream. The tree file is read again if an explanation is asked for, or what else is wrong.
-fn audit_files<'a, T, S, K, R, O, E>(
+pub(crate) fn audit_files<'a, T, S, K, R, O, E>(
     rt: &R,
     files: &AuditOptions<'a>,
     tree: &T,
@@ -322,7 +326,7 @@ pub(crate) fn report_finding<'a, T: Opens<'a>, R: Files + AllocGlobal, O: Write,
     ensures ok { IfOk result (λ ending. ending ≡ endings.Refused) }
     ensures err { IfErr result IsUnwritten }
 {
-    if files.explains && files.is_json {
+    if files.is_json {
         return refuse_as_object(rt, files, tree.path(), left_out, finding, output);
     }
     let ending = refuse(files, finding, output);
@@ -332,7 +336,7 @@ pub(crate) fn report_finding<'a, T: Opens<'a>, R: Files + AllocGlobal, O: Write,
     ending
 }
 
-/// Says why a session of these files is refused as a JSON object, with the explanation in it.
+/// Says why a session of these files is refused as a JSON object, with the explanation in it if that is asked for.
 fn refuse_as_object<'a, R: Files + AllocGlobal, O: Write>(
     rt: &R,
     files: &AuditOptions<'a>,
@@ -345,15 +349,30 @@ fn refuse_as_object<'a, R: Files + AllocGlobal, O: Write>(
     ensures err { IfErr result IsUnwritten }
 {
     let mut lines = Vec::new(rt.alloc());
-    explain(rt, files, tree, left_out, finding.refusal, &mut lines);
-    let ending = print_refused(
-        finding.refusal,
-        finding.follows,
-        Some(lines.as_slice()),
-        output,
-    );
+    explain_in_object(rt, files, tree, left_out, finding.refusal, &mut lines);
+    let beside = Beside {
+        name: files.shown_name(),
+        accepted: accepted_before(rt, files, finding.refusal),
+        lines: lines.as_slice(),
+        explains: files.explains,
+    };
+    let ending = print_refused(finding.refusal, finding.follows, beside, output);
     drop(lines);
     ending
+}
+
+/// Writes the explanation of a refusal, if the object of the session has it, or what is expected and what was found.
+fn explain_in_object<'a, R: Files + AllocGlobal>(
+    rt: &R,
+    files: &AuditOptions<'a>,
+    tree: &str,
+    left_out: &mut LeftOut,
+    refusal: Refusal,
+    lines: &mut Vec<u8>,
+) {
+    if files.explains || files.is_named {
+        explain(rt, files, tree, left_out, refusal, lines);
+    }
 }
 
 /// Audits the session of this transcript, while standard error says how much of it is read.
@@ -476,8 +495,7 @@ fn accept<'a, K: Stores<'a>, O: Write>(
     say_accepted(counts_of(ended), files, output)
 }
 
-/// Says why the session is refused, as a line or as a JSON object: `NotModelled` where the profile does not follow a
-/// request.
+/// Says why the session is refused, as a line: `NotModelled` where the profile does not follow a request.
 fn refuse<'a, O: Write>(
     files: &AuditOptions<'a>,
     finding: Finding,
@@ -486,16 +504,18 @@ fn refuse<'a, O: Write>(
     ensures ok { IfOk result (λ ending. ending ≡ endings.Refused) }
     ensures err { IfErr result IsUnwritten }
 {
-    if files.is_json {
-        return print_refused(finding.refusal, finding.follows, None, output);
-    }
+    let label = Label(files.shown_name());
     match finding.refusal {
         Refusal::NotAllowed { record } if !finding.follows => print(
             output,
-            format_args!("refused record {record}: NotModelled\n"),
+            format_args!("{label}refused record {record}: NotModelled\n"),
             Ending::Refused,
         ),
-        refusal => print(output, format_args!("refused {refusal}\n"), Ending::Refused),
+        refusal => print(
+            output,
+            format_args!("{label}refused {refusal}\n"),
+            Ending::Refused,
+        ),
     }
 }
 

@@ -5,7 +5,7 @@ ghost use Rattle.sftp_files.specs.Failures.{IsUnwritten};
 
 use crate::verdict_objects::print_accepted;
 use sftp_audit::EndedCut;
-use sftp_files::{Ending, Failure, print};
+use sftp_files::{Ending, Failure, Named, print};
 use sftp_json::JsonLines;
 use sftp_verdicts::AuditOptions;
 use std::fmt;
@@ -59,9 +59,26 @@ pub(crate) fn say_accepted<'a, O: Write>(
     ensures err { IfErr result IsUnwritten }
 {
     if files.is_json {
-        return print_accepted(counts, files.cuts, output);
+        return print_accepted(counts, files, output);
     }
-    print(output, format_args!("{counts}\n"), Ending::Done)
+    let label = Label(files.shown_name());
+    print(output, format_args!("{label}{counts}\n"), Ending::Done)
+}
+
+/// The name of a transcript in front of what is said of its session, if it has one.
+#[derive(Clone, Copy)]
+pub(crate) struct Label<'a>(pub(crate) Option<&'a str>);
+
+impl fmt::Display for Label<'_> {
+    fn fmt<W: fmt::Write>(&self, f: &mut fmt::Formatter<W>) -> fmt::Result {
+        match self.0 {
+            Some(name) => {
+                let name = Named(name);
+                write!(f, "{name}: ")
+            }
+            None => Ok(()),
+        }
+    }
 }
 
 /// How many requests of an accepted session there are of each kind.

@@ -1,11 +1,11 @@
 //! What is known of a malformed file beside its fault: its name, and whether it is a file of another kind.
 
-use sftp_files::{Failure, Named, STANDARD_INPUT, is_read_again, write_flushed};
+use sftp_files::{Failure, Named, STANDARD_INPUT, input_name, is_read_again, open, write_flushed};
 use sftp_transcript::TranscriptError;
 use sftp_treefile::TreeError;
+use std::fmt;
 use std::fs::Files;
 use std::io::{Read, Write};
-use std::{fmt, fs};
 
 /// How many bytes of a file say of which kind it is: those of the first block of an archive.
 pub(crate) const START: u64 = 512;
@@ -26,6 +26,7 @@ enum Role {
     Transcript,
     Either,
     Archive,
+    Times,
 }
 
 impl Role {
@@ -36,6 +37,7 @@ impl Role {
             Role::Transcript => ", not a transcript",
             Role::Either => ", neither a transcript nor a tree file",
             Role::Archive => ", not an archive of tar",
+            Role::Times => ", not a file of times",
         }
     }
 }
@@ -148,6 +150,17 @@ impl<'a> Faulty<'a> {
         Some(faulty)
     }
 
+    /// The file `name`, whose first bytes are not those of a file of times, if they say what it is.
+    pub(crate) fn of_times<R: Files + AllocGlobal>(rt: &R, name: &'a str) -> Option<Faulty<'a>> {
+        let format = format_of_file(rt, name)?;
+        Some(Faulty {
+            name,
+            format: Some(format),
+            taken_for: Role::Times,
+            is_named: true,
+        })
+    }
+
     /// Writes the line about the file, if it is of another kind.
     pub fn put_format<E: Write>(&self, errors: &mut E) {
         if self.format.is_some() {
@@ -165,7 +178,7 @@ impl<'a> Faulty<'a> {
 
 impl fmt::Display for Faulty<'_> {
     fn fmt<W: fmt::Write>(&self, f: &mut fmt::Formatter<W>) -> fmt::Result {
-        let name = Named(self.name);
+        let name = Named(input_name(self.name));
         match self.format {
             Some(format) => {
                 let text = format.text();
@@ -237,7 +250,7 @@ fn format_of_file<R: Files + AllocGlobal>(rt: &R, name: &str) -> Option<Format> 
 
 /// Appends the first bytes of a file. Returns whether they could be read.
 fn is_start_read<R: Files>(rt: &R, name: &str, start: &mut Vec<u8>) -> bool {
-    match fs::open(rt, name) {
+    match open(rt, name) {
         Ok(file) => file.take(START).read_to_end(start).is_ok(),
         Err(_) => false,
     }

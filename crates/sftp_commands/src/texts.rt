@@ -42,13 +42,11 @@ fn make_from<'a, R: System>(
 ) -> Result<Ending, Failure<'a>>
     ensures { IfOk result (λ ending. ending ≡ endings.Done) }
 {
-    if text.is_empty() {
-        return Err(Failure::of_text(format!(in rt.alloc();
-            "standard input is empty; the text of a transcript begins with C INIT, that of a tree file with home"
-        )));
-    }
+    let Some(first) = first_line(text) else {
+        return Err(no_lines(rt.alloc(), text));
+    };
     let mut bytes = Vec::new(rt.alloc());
-    match read_text(text, &mut bytes) {
+    match read_text(first, text, &mut bytes) {
         Ok(()) => write_last(rt, name, keeping, bytes),
         Err(fault) => {
             drop(bytes);
@@ -57,23 +55,36 @@ fn make_from<'a, R: System>(
     }
 }
 
-fn read_text(text: &[u8], bytes: &mut Vec<u8>) -> Result<(), TextFault> {
-    if is_tree_text(text) {
+/// The first line of a text that is neither blank nor a comment.
+fn first_line(text: &[u8]) -> Option<&[u8]> {
+    let mut rest = text;
+    'lines: while let Some(line) = take_line(&mut rest) {
+        if !is_blank(line) {
+            return Some(line);
+        }
+    }
+    None
+}
+
+/// The failure for a text that has no such line.
+fn no_lines<'a>(alloc: Global, text: &[u8]) -> Failure<'a> {
+    let lack = if text.is_empty() {
+        "is empty"
+    } else {
+        "has only comments and blank lines"
+    };
+    Failure::of_text(format!(in alloc;
+        "{STANDARD_INPUT} {lack}; the text of a transcript begins with C INIT, that of a tree file with home"
+    ))
+}
+
+/// Appends the bytes of a text: those of a tree file if this first line is that of one, and else of a transcript.
+fn read_text(first: &[u8], text: &[u8], bytes: &mut Vec<u8>) -> Result<(), TextFault> {
+    if first.starts_with(TREE_LABEL) {
         read_tree(text, bytes)
     } else {
         read_transcript(text, bytes)
     }
-}
-
-/// Whether the first line that says something is that of a tree file.
-fn is_tree_text(text: &[u8]) -> bool {
-    let mut rest = text;
-    'lines: while let Some(line) = take_line(&mut rest) {
-        if !is_blank(line) {
-            return line.starts_with(TREE_LABEL);
-        }
-    }
-    false
 }
 
 /// The failure for a text that has no file: the line, the column, the word there, and what was expected in its place.

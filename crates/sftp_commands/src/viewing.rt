@@ -1,9 +1,11 @@
 //! The subcommand `show` with times, with a selection of records, or as JSON.
 use crate::cuts::limit_of;
+use crate::faulty::Faulty;
 use crate::objects::printed;
 use crate::selecting::{Wanted, read_wanted};
 use crate::showing::{is_transcript_read, shown_tree};
-use sftp_files::{Ending, Failure, Named, STANDARD_OUTPUT, ShowOptions, open};
+use sftp_files::{Ending, Failure, Named, STANDARD_OUTPUT, ShowOptions, input_name, open};
+use sftp_times::TimesError;
 use sftp_transcript::{Reader, Tally};
 use sftp_treefile::TreeFile;
 use sftp_views::{Clock, Form, Shape, View, ViewError, put_tree, show_records};
@@ -167,7 +169,7 @@ fn view_timed<'a, F: Read + Drop, R: Files + AllocGlobal, O: Write>(
     output: &mut O,
 ) -> Result<bool, Failure<'a>> {
     match open_times(rt, options.times) {
-        Ok(times) => view_records(rt.alloc(), options, view, file, times, output),
+        Ok(times) => view_records(rt, options, view, file, times, output),
         Err(failure) => {
             drop(file);
             Err(failure)
@@ -189,18 +191,18 @@ fn open_times<'a, R: Files + AllocGlobal>(
     }
 }
 
-fn view_records<'a, F: Read + Drop, C: Read + Drop, O: Write>(
-    alloc: Global,
+fn view_records<'a, F: Read + Drop, C: Read + Drop, R: Files + AllocGlobal, O: Write>(
+    rt: &R,
     options: &ShowOptions<'a>,
     view: &View<'_>,
     file: F,
     times: Option<C>,
     output: &mut O,
 ) -> Result<bool, Failure<'a>> {
-    let mut clock = Clock::new(alloc, times);
-    let shown = match Reader::new(alloc, Tally::new(file)) {
+    let mut clock = Clock::new(rt.alloc(), times);
+    let shown = match Reader::new(rt.alloc(), Tally::new(file)) {
         Ok(mut records) => {
-            let shown = show_records(alloc, &mut records, &mut clock, view, output);
+            let shown = show_records(rt.alloc(), &mut records, &mut clock, view, output);
             drop(records);
             shown
         }
@@ -210,7 +212,7 @@ fn view_records<'a, F: Read + Drop, C: Read + Drop, O: Write>(
     match shown {
         Ok(has_shown) => Ok(has_shown),
         Err(error) => {
-            let failure = failure_of(alloc, options, &error);
+            let failure = failure_of(rt, options, &error);
             drop(error);
             Err(failure)
         }
@@ -218,17 +220,35 @@ fn view_records<'a, F: Read + Drop, C: Read + Drop, O: Write>(
 }
 
 /// Why a transcript is not shown to its end, as a failure of the run.
-fn failure_of<'a>(alloc: Global, options: &ShowOptions<'a>, error: &ViewError) -> Failure<'a> {
+fn failure_of<'a, R: Files + AllocGlobal>(
+    rt: &R,
+    options: &ShowOptions<'a>,
+    error: &ViewError,
+) -> Failure<'a> {
+    let times = options.times.unwrap_or("");
     match error {
         ViewError::Transcript(error) => Failure::of_transcript(*error, options.file),
-        ViewError::Times(error) => Failure::of_text(format!(in alloc; "times: {error}")),
+        ViewError::Times(TimesError::Magic) => no_times(rt, times),
+        ViewError::Times(error) => Failure::of_text(format!(in rt.alloc(); "times: {error}")),
         ViewError::Spare { entry } => {
-            Failure::of_text(format!(in alloc; "times: entry {entry}: Trailing"))
+            Failure::of_text(format!(in rt.alloc(); "times: entry {entry}: Trailing"))
         }
-        ViewError::Clock(error) => Failure::reading(options.times.unwrap_or(""), error),
+        ViewError::Clock(error) => Failure::reading(times, error),
         ViewError::Output(error) => Failure::writing(STANDARD_OUTPUT, error),
         ViewError::NoMemory => Failure::OutOfMemory,
     }
+}
+
+/// Why the file `name` has no times: what it is, if that is known.
+fn no_times<'a, R: Files + AllocGlobal>(rt: &R, name: &str) -> Failure<'a> {
+    let message = match Faulty::of_times(rt, name) {
+        Some(file) => format!(in rt.alloc(); "times: {file}"),
+        None => {
+            let fault = TimesError::Magic;
+            format!(in rt.alloc(); "times: {fault}")
+        }
+    };
+    Failure::of_text(message)
 }
 
 /// Shows a file that is no transcript, as JSON.
@@ -260,6 +280,6 @@ fn put_rows<'a, O: Write>(
 
 /// The failure for options that select records of a file that has none.
 fn no_transcript<'a>(alloc: Global, name: &str) -> Failure<'a> {
-    let name = Named(name);
+    let name = Named(input_name(name));
     Failure::of_text(format!(in alloc; "{name} is a tree file, and has no records to select"))
 }

@@ -19,7 +19,8 @@ pub use contents::{Content, FileSink};
 pub use copies::Repeatable;
 pub use memory::{Bounded, BoundedRecords, Meter};
 pub use messages::{
-    Ending, Failure, MORE, STANDARD_INPUT, STANDARD_OUTPUT, print, report, write_flushed,
+    Ending, Failure, MORE, STANDARD_INPUT, STANDARD_OUTPUT, advice_on_reading, input_name, print,
+    report, write_flushed,
 };
 pub use names::Named;
 pub use options::{DiffForm, ImportOptions, RaiseTo, ServeOptions, ShowOptions};

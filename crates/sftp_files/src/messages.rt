@@ -28,6 +28,15 @@ pub const MORE: &str = "\nFor more information, try '--help'.\n";
 /// The system's number for a directory in the place of a file.
 pub(crate) const IS_A_DIRECTORY: i32 = 21;
 
+/// What takes a directory.
+const TAKES_FOLDERS: &str =
+    "; sftpv3-audits judges a folder of recordings, and sftpv3-tree makes a tree file of a folder";
+
+/// What messages call the file `name` that is read: `-` is standard input.
+pub fn input_name(name: &str) -> &str {
+    if name == "-" { STANDARD_INPUT } else { name }
+}
+
 /// The outcome of a run that did what was asked, or that has said itself why it did not.
 #[derive(Clone, Copy)]
 pub enum Ending {
@@ -87,15 +96,15 @@ impl Failure<'_> {
             Failure::Usage(text) => (text.as_str(), ""),
             Failure::Text(_) => ("sftpv3: ", ""),
             Failure::Tree(_) => ("sftpv3: tree: ", ""),
-            Failure::TreeOf(name, _) => ("sftpv3: tree ", name),
+            Failure::TreeOf(name, _) => ("sftpv3: tree ", input_name(name)),
             Failure::Transcript(_) => ("sftpv3: transcript: ", ""),
             Failure::UnknownFile => ("sftpv3: unknown file", ""),
-            Failure::CannotRead(name, _) => ("sftpv3: cannot read ", name),
+            Failure::CannotRead(name, _) => ("sftpv3: cannot read ", input_name(name)),
             Failure::CannotWrite(name, _) => ("sftpv3: cannot write ", name),
             Failure::CannotReplace(name, _) => ("sftpv3: cannot write ", name),
-            Failure::CannotCopy(name, _) => ("sftpv3: cannot keep a copy of ", name),
+            Failure::CannotCopy(name, _) => ("sftpv3: cannot keep a copy of ", input_name(name)),
             Failure::Unfit(name, _) => ("sftpv3: cannot write ", name),
-            Failure::OverLimit(name) => ("sftpv3: out of memory: ", name),
+            Failure::OverLimit(name) => ("sftpv3: out of memory: ", input_name(name)),
             Failure::OutOfMemory => ("sftpv3: out of memory", ""),
             Failure::Unjudged(..) => ("sftpv3: ", ""),
         }
@@ -311,14 +320,7 @@ pub fn report<E: Write>(errors: &mut E, failure: &Failure<'_>) {
 /// Writes what the system says of a failure, if that is known, and that a file is unchanged.
 fn report_details<E: Write>(errors: &mut E, failure: &Failure<'_>) -> io::Result<()> {
     match failure {
-        Failure::CannotRead(_, Some(IS_A_DIRECTORY)) => {
-            put_reason(
-                errors,
-                IS_A_DIRECTORY,
-                "; sftpv3-tree makes a tree file of a folder",
-            )
-        }
-        Failure::CannotRead(_, Some(code)) => put_reason(errors, *code, ""),
+        Failure::CannotRead(_, Some(code)) => put_reason(errors, *code, advice_on_reading(*code)),
         Failure::CannotWrite(_, Some(code)) => put_reason(errors, *code, ""),
         Failure::CannotCopy(_, Some(code)) => put_reason(errors, *code, ""),
         Failure::CannotReplace(_, Some(code)) => {
@@ -328,6 +330,15 @@ fn report_details<E: Write>(errors: &mut E, failure: &Failure<'_>) -> io::Result
             write_flushed(errors, "sftpv3: the file is unchanged\n")
         }
         _ => Ok(()),
+    }
+}
+
+/// What a message adds to the system's error of this number where a file is read: what takes a folder, if it is one.
+pub fn advice_on_reading(code: i32) -> &'static str {
+    if code == IS_A_DIRECTORY {
+        TAKES_FOLDERS
+    } else {
+        ""
     }
 }
 

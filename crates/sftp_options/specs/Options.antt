@@ -120,6 +120,13 @@ pub record IsAuditAsked (rows : List Row) (asked : AuditOptions) : Type 0 where
   pub profile : asked.profile ≡ profile_asked (options_in rows)
   pub umask : value_in rows (codes "umask") ≡ option_map (λ digits. digits.now) asked.umask
 
+-- the same for the audit of each of several transcripts: what the verdict on each depends on
+pub record IsEachAsked (rows : List Row) (asked : AuditOptions) : Type 0 where
+  pub tree : value_in rows (codes "tree") ≡ Some asked.tree.now
+  pub cuts : asked.cuts ≡ is_given (value_in rows (codes "cut"))
+  pub profile : asked.profile ≡ profile_asked (options_in rows)
+  pub umask : value_in rows (codes "umask") ≡ option_map (λ digits. digits.now) asked.umask
+
 -- the tree or the transcript is not named
 abbrev pub LacksFile : List Row → Type 0
 LacksFile rows = (value_in rows (codes "tree") ≡ None) ⊎ (value_in rows (codes "transcript") ≡ None)

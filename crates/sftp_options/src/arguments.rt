@@ -13,6 +13,8 @@ pub(crate) enum Form<'a> {
     Flag,
     /// `VALUE`, which has to be given.
     Place(&'a str),
+    /// `VALUE`, any number of times.
+    Places(&'a str),
     /// `--NAME VALUE`, which has to be given.
     Required(&'a str),
     /// `--NAME VALUE`.
@@ -124,8 +126,13 @@ pub(crate) const AUDIT: &[Argument] = &[
     TREE,
     (
         "transcript",
-        Form::Required("FILE"),
+        Form::Optional("FILE"),
         "The transcript: the recorded packets of the session",
+    ),
+    (
+        "transcripts-from",
+        Form::Optional("LIST"),
+        "A file with the name of a transcript on each line; each is audited, and has a line of its own",
     ),
     (
         "out",
@@ -167,6 +174,11 @@ pub(crate) const AUDIT: &[Argument] = &[
     MEMORY,
     MODE,
     NO_SYNC,
+    (
+        "files",
+        Form::Places("FILE"),
+        "Transcripts; each is audited, and has a line of its own",
+    ),
 ];
 
 pub(crate) const INFER: &[Argument] = &[

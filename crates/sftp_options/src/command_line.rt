@@ -12,14 +12,14 @@ ghost use Rattle.sftp_options.specs.Options.{IsAuditAsked, IsAuditRequest, Lacks
 use crate::arguments::{
     AUDIT, Argument, BLANK, DIFF, EXPORT, Form, IMPORT, INFER, MAKE, RAISE, SERVE, SHOW,
 };
-use crate::{help, importing, profiles, searching};
+use crate::{help, importing, profiles, searching, several};
 use clap::error::ErrorKind;
 use clap::{Arg, ArgAction, ArgMatches, Command, Error, value_parser};
 use sftp_files::{
     DiffForm, Failure, ImportOptions, Keeping, MORE, PRIVATE, RaiseTo, ServeOptions, ShowOptions,
 };
 use sftp_vary::{Freedoms, Style, Variation, Words};
-use sftp_verdicts::{AuditOptions, InferOptions, octal};
+use sftp_verdicts::{AuditOptions, EachOptions, InferOptions, octal};
 use std::alloc::{AllocError, Global};
 
 /// What a command line asks for.
@@ -29,6 +29,8 @@ pub enum Request<'a> {
     Serve(ServeOptions<'a>, Style),
     /// Audit a session.
     Audit(AuditOptions<'a>),
+    /// Audit the sessions of several transcripts, each by itself.
+    AuditEach(EachOptions<'a>),
     /// Infer a tree from a session, and audit the session with it.
     Infer(InferOptions<'a>),
     /// Write the blank tree to a file.
@@ -139,18 +141,33 @@ fn has_control_character(word: &str) -> bool {
 
 fn matched<'a>(alloc: Global, version: &'a str, words: &'a [String]) -> Result<Request<'a>, Error> {
     let mut command = command(alloc, version)?;
-    let request = matched_by(&mut command, words);
+    let request = matched_by(alloc, &mut command, words);
     drop(command);
     request
 }
 
-fn matched_by<'a>(command: &mut Command<'a>, words: &'a [String]) -> Result<Request<'a>, Error> {
+fn matched_by<'a>(
+    alloc: Global,
+    command: &mut Command<'a>,
+    words: &'a [String],
+) -> Result<Request<'a>, Error> {
     let matches = command.try_get_matches_from_mut(words)?;
-    let request = requested(&matches);
+    let request = request_of(alloc, &matches);
     drop(matches);
-    match request {
+    match request? {
         Some(request) => Ok(request),
         None => Err(command.error(ErrorKind::MissingSubcommand, "a subcommand is required")?),
+    }
+}
+
+/// What a command line asks for.
+fn request_of<'a>(
+    alloc: Global,
+    matches: &ArgMatches<'a>,
+) -> Result<Option<Request<'a>>, AllocError> {
+    match several::request_of(alloc, matches)? {
+        Some(request) => Ok(Some(request)),
+        None => Ok(requested(matches)),
     }
 }
 
@@ -456,6 +473,7 @@ fn new_argument<'a>(alloc: Global, name: &'a str, form: Form<'a>, help: &'a str)
     match form {
         Form::Flag => arg.long(name).action(ArgAction::SetTrue),
         Form::Place(label) => valued(arg, label).required(true),
+        Form::Places(label) => arg.value_name(label).num_args(1..),
         Form::Required(label) => valued(arg.long(name), label).required(true),
         Form::Optional(label) => valued(arg.long(name), label),
         Form::Number(label) => { valued(arg.long(name), label).value_parser(value_parser!(u64)) }

@@ -336,6 +336,17 @@ transcript, which is read again for each finding, so it cannot be a pipe. A sess
 status is 1, and --out writes nothing. Each finding is as if the earlier ones were not there: it may follow from what a
 server got wrong before.
 
+With several transcripts, by FILE... or --transcripts-from LIST ('-' is standard input), each is judged by itself from
+the tree, which is read once. Each has a line that begins with its name, in the order given:
+
+  one.transcript: accepted 812 requests
+  two.transcript: refused record 11: NotAllowed
+  cut.transcript: malformed: record 3: Truncated
+  none.transcript: cannot be read: No such file or directory (os error 2)
+
+The status is the worst of all. --json prints an object for each, --progress how many are done; --out, --keep-going and
+--tree unknown are for one transcript alone, and --explain needs --json.
+
 With --json, standard output has one JSON object in every case: the verdict with the parts of the explanation, or the
 failure; with --keep-going one for each finding, and one for the last line. The statuses are the same.
 

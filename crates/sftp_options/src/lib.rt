@@ -8,5 +8,6 @@ mod importing;
 mod profiles;
 mod requests;
 mod searching;
+mod several;
 
 pub use command_line::{Request, parse};

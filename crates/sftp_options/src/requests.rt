@@ -6,6 +6,7 @@ impl<'a> Request<'a> {
     pub fn is_for_machines(&self) -> bool {
         match self {
             Request::Audit(files) => files.is_json,
+            Request::AuditEach(options) => options.asked.is_json,
             Request::Infer(options) => options.is_json,
             Request::Show(options) => options.is_json,
             Request::Diff { form, .. } => form.is_json,
@@ -18,6 +19,7 @@ impl<'a> Request<'a> {
         match self {
             Request::Serve(options, _) => Some(options.tree),
             Request::Audit(files) => Some(files.tree),
+            Request::AuditEach(options) => Some(options.asked.tree),
             Request::Raise { tree, .. } => Some(*tree),
             Request::Export { file, .. } => Some(*file),
             _ => self.shown(),

@@ -31,8 +31,8 @@ pub const VERSION: &str = "0.2.0";
 /// - 3: a file or a stream cannot be read or written, or memory ran out.
 ///
 /// With status 2 or 3 the reason is written to `errors`. If `errors` cannot be written, the status is the same.
-/// If a reader closed the pipe that `output` is, nothing is said: `show` and the help then end with status 0, and
-/// `diff` with 1.
+/// If a reader closed the pipe that `output` is, nothing is said: `show` and the help then end with status 0, `diff`
+/// with 1, and `audit` and `infer` with 3.
 /// `output` is flushed, unless a session stops because a stream fails or memory runs out. Only `serve`, `make` and
 /// `import` read `input`. Where `errors` is a terminal, `audit`, `diff`, `import` and `export` say there how far they
 /// are, while that takes more than two seconds. `serve` and `import` refuse an `input` that is a terminal, `export` an
@@ -70,25 +70,47 @@ where
     E: Write + IsTerminal,
     ensures { result ≤ 3 }
 {
-    let outcome = match parse(rt.alloc(), version, words) {
+    match parse(rt.alloc(), version, words) {
         Ok(request) => {
             let ending = perform_request(rt, &request, input, output, errors);
             let ending = pipes::quiet(&request, ending);
-            let explained = explained(rt, &request, ending, output, errors);
+            let status = status_said(rt, &request, ending, output, errors);
             drop(request);
-            explained
-        }
-        Err(failure) => Err(failure),
-    };
-    match outcome {
-        Ok(ending) => ending.status(),
-        Err(failure) => {
-            let status = failure.status();
-            report(errors, &failure);
-            drop(failure);
             status
         }
+        Err(failure) => failed(failure, false, errors),
     }
+}
+
+/// The exit status of a request that ended so. If it failed, `errors` now says why, unless nobody reads its verdict.
+fn status_said<'a, R: Files + AllocGlobal, O: Write, E: Write>(
+    rt: &R,
+    request: &Request<'a>,
+    ending: Result<Ending, Failure<'a>>,
+    output: &mut O,
+    errors: &mut E,
+) -> u8
+    ensures { result ≤ 3 }
+{
+    match explained(rt, request, ending, output, errors) {
+        Ok(ending) => ending.status(),
+        Err(failure) => {
+            let is_silent = pipes::is_silent(request, &failure);
+            failed(failure, is_silent, errors)
+        }
+    }
+}
+
+/// The exit status of a run that failed. Unless it fails without a word, `errors` now says why.
+fn failed<E: Write>(failure: Failure<'_>, is_silent: bool, errors: &mut E) -> u8
+    ensures { result ≤ 3 }
+{
+    let status = failure.status();
+    if !is_silent {
+        report(errors, &failure);
+    }
+    drop(failure);
+    status
 }
 
 /// The outcome of a request. If a file is malformed, `errors` now says so, with its name and what else is known of it.
@@ -176,6 +198,7 @@ where
             sftp_serving::serve(rt, options, *style, input, output, errors)
         }
         Request::Audit(files) => subcommands::audit(rt, files, output, errors),
+        Request::AuditEach(options) => sftp_auditing::audit_each(rt, options, output, errors),
         Request::Infer(options) => sftp_inferring::infer(rt, options, output, errors),
         Request::Blank { file, keeping } => subcommands::blank(rt, file, *keeping),
         Request::Raise {

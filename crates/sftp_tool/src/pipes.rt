@@ -22,6 +22,28 @@ pub(crate) fn quiet<'a>(
     }
 }
 
+/// Whether a failure of this request goes without a word: nobody reads its verdict any more. The status tells that it
+/// was not given whole.
+pub(crate) fn is_silent(request: &Request<'_>, failure: &Failure<'_>) -> bool {
+    gives_verdict(request) && is_closed(failure)
+}
+
+/// Whether a request prints a verdict.
+fn gives_verdict(request: &Request<'_>) -> bool {
+    matches!(
+        request,
+        Request::Audit(_) | Request::AuditEach(_) | Request::Infer(_)
+    )
+}
+
+/// Whether standard output is a pipe that nobody reads any more.
+fn is_closed(failure: &Failure<'_>) -> bool {
+    match failure {
+        Failure::CannotWrite(name, Some(BROKEN_PIPE)) => *name == STANDARD_OUTPUT,
+        _ => false,
+    }
+}
+
 /// How a request ends whose output nobody reads to its end, if it may end so.
 fn enough(request: &Request<'_>) -> Option<Ending> {
     match request {

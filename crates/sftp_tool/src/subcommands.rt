@@ -6,7 +6,8 @@ ghost use Rattle.sftp_verdicts.specs.Verdicts.{IsAuditStatus};
 
 use sftp_audit::blank_tree;
 use sftp_files::{
-    Ending, Failure, Keeping, Named, ShowOptions, System, print, write_flushed, write_last,
+    Ending, Failure, Keeping, Named, ShowOptions, System, input_name, print, write_flushed,
+    write_last,
 };
 use sftp_verdicts::{AuditOptions, InferOptions};
 use std::io::{IsTerminal, Write};
@@ -65,7 +66,7 @@ pub(crate) fn show<'a, R: System, O: Write, E: Write>(
 ) -> Result<Ending, Failure<'a>> {
     let ending = sftp_commands::show(rt, options, output)?;
     if let Ending::Unmatched = ending {
-        let name = Named(options.file);
+        let name = Named(input_name(options.file));
         let _ = write_flushed(errors, format_args!("sftpv3: nothing in {name} matches\n"));
     }
     Ok(ending)

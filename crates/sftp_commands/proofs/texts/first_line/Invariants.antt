@@ -1,5 +1,5 @@
 use Rattle.std.proofs.Common.{length}
-use Rattle.sftp_commands.proofs.texts.is_tree_text.Given as goal
+use Rattle.sftp_commands.proofs.texts.first_line.Given as goal
 
 abbrev pub decreases-lines : goal.decreases-lines
 decreases-lines l = length l.rest
