@@ -14,7 +14,7 @@ from contextlib import suppress
 from broken import planted
 from sftpv3 import codec
 from sftpv3.faults.between import write
-from sftpv3.probe import features
+from sftpv3.probe import bytext, features, readonly
 
 # The longest packet that the draft (section 3) asks each server to take, and how many handles may be open of few.
 EACH_TAKES, FEW = 34_000, 20
@@ -176,6 +176,18 @@ class days_of_access(Usual):
         return packet
 
 
+class even_seconds(Usual):
+    """It keeps the even second before a time, as FAT does."""
+
+    def reply(self, asked, packet):
+        if packet[4] == codec.ATTRS:
+            return codec.packet(codec.ATTRS, packet[5:9] + codec.attributes(in_twos(codec.attributes_in(packet))))
+        if packet[4] == codec.NAME and asked.name == "READDIR":
+            items = [(name, long, in_twos(given)) for name, long, given in codec.names_in(packet)]
+            return codec.packet(codec.NAME, packet[5:9] + codec.names(items))
+        return packet
+
+
 class no_times(Usual):
     """It sets no times."""
 
@@ -229,12 +241,60 @@ class no_links(Usual):
         return super().answer(asked, packet)
 
 
+class paths_by_text(Usual):
+    """It resolves paths by their text, whatever is there."""
+
+    def answer(self, asked, packet):
+        return super().answer(asked, bytext.request(packet, link_first=False))
+
+
+class read_only(Usual):
+    """Nobody can change its files."""
+
+    def answer(self, asked, packet):
+        is_refused = readonly.is_change(asked)
+        return codec.status(asked.number, codec.PERMISSION_DENIED) if is_refused else super().answer(asked, packet)
+
+
+class read_only_but_removes(read_only):
+    """Wrong: the same, but files can be removed."""
+
+    def answer(self, asked, packet):
+        return self.pass_on(packet) if asked.name == "REMOVE" else super().answer(asked, packet)
+
+
+class links_leave(Usual):
+    """Its root is a folder of the machine, so that links with absolute targets lead to what is not among its files."""
+
+    def __init__(self, server):
+        super().__init__(server)
+        self.targets = {}
+
+    def answer(self, asked, packet):
+        if asked.name == "SYMLINK" and asked.fields[0][1:2] and asked.fields[0].startswith(b"/"):
+            elsewhere = b"/\xff" + asked.fields[0][2:]
+            self.targets[elsewhere] = asked.fields[0]
+            packet = codec.request(asked.number, "SYMLINK", elsewhere, asked.fields[1])
+        return super().answer(asked, packet)
+
+    def reply(self, asked, packet):
+        if asked.name != "READLINK" or packet[4] != codec.NAME:
+            return packet
+        (target, long, given), *_ = codec.names_in(packet)
+        return codec.packet(codec.NAME, packet[5:9] + codec.names([(self.targets.get(target, target), long, given)]))
+
+
 def of_day(given):
     """Attributes with the day of the time of access alone."""
     if "times" not in given:
         return given
     access, modification = given["times"]
     return {**given, "times": (access - access % DAY, modification)}
+
+
+def in_twos(given):
+    """Attributes with even seconds."""
+    return {**given, "times": tuple(one & ~1 for one in given["times"])} if "times" in given else given
 
 
 def packets_of(source):

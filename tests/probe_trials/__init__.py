@@ -10,4 +10,5 @@ failing  what fails on the side of the probe: the system, its outputs, itself
 first    --quick, --known, --last-failed, --max-kinds, and what a server keeps that nothing needs
 looked   --checks, in all reports, and how far sessions reached
 inner    modules of the probe, called without a run; and that --jobs changes no report
+told     modules that read what a session shows, called without a run and without a server
 """

@@ -36,7 +36,7 @@ def try_without_tree(steps, folder):
                     status == 2 and "it does not start from" in said, said)
         steps.check("nothing is changed there", asked_in(transcript) == {"OPENDIR", "READDIR", "CLOSE"})
     status, said, _ = probe("--seeds", "1-2", "--tree", START, "--", *server[:4])
-    steps.check("a server of the files of --tree is played", status == 0 and said.startswith("accepted: 2 "), said)
+    steps.check("a server of the files of --tree is played", status == 0 and "\naccepted: 2 " in said, said)
 
 
 def try_tree_ignored(steps, folder):
@@ -79,10 +79,10 @@ def try_kept(steps, folder):
     steps.check("and a --reset that puts nothing back: status 2, and why", status == 2 and
                 "--reset does not put them back" in said and said.count("\n") == 1, (status, said))
     status, said, _ = probe(*words, "--reset", f"cp {start} {live}", "--", *server)
-    steps.check("one whose files --reset puts back is played", status == 0 and said.startswith("accepted: 2 "), said)
+    steps.check("one whose files --reset puts back is played", status == 0 and "\naccepted: 2 " in said, said)
     status, said, _ = probe(*words, "--reset", f"cp {start} {{folder}}/live", "--", program(), "serve", "--tree",
                             "{folder}/live", "--save", "{folder}/live")
-    steps.check("and so is one in {folder}", status == 0 and said.startswith("accepted: 2 "), said)
+    steps.check("and so is one in {folder}", status == 0 and "\naccepted: 2 " in said, said)
 
 
 TRIALS = (try_without_tree, try_tree_ignored, try_nothing_shown, try_kept)

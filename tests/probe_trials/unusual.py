@@ -18,11 +18,14 @@ TOLD = [
     ("few-handles", ["--limits", "handles=20"], []),
     ("days-of-access", ["--without", "access-times"], ["--times"]),
     ("no-times", ["--skip", "times"], ["--times"]),
+    ("even-seconds", ["--skip", "odd-seconds"], ["--times"]),
     ("texts-alone", ["--skip", "not-utf-8"], []),
     ("one-owner", ["--skip", "owner"], []),
     ("few-owners", ["--skip", "large-owner"], []),
     ("bare-listings", ["--without", "listed-attributes"], []),
     ("no-links", ["--skip", "HARDLINK,READLINK,SYMLINK"], []),
+    ("paths-by-text", ["--paths", "text"], []),
+    ("read-only", ["--without", "changes"], []),
 ]
 
 
@@ -33,7 +36,7 @@ def unusual(kind, *options):
 def try_accepted(steps, _):
     def accept(kind):
         status, said, _ = probe("--seeds", "1-5", "--", *unusual(kind))
-        steps.check(f"{kind}: accepted", status == 0 and said.startswith("accepted: 5 "), said)
+        steps.check(f"{kind}: accepted", status == 0 and "\naccepted: 5 " in said, said)
     side_by_side(accept, [(kind,) for kind in ACCEPTED])
 
 
@@ -44,7 +47,7 @@ def try_kept(steps, folder):
     status, said, _ = probe("--seeds", "1-2", "--tree", os.path.join(folder, "usual.tree"), "--reset",
                             f"cp {folder}/usual.tree {live}", "--", *server)
     steps.check("late, with --save: accepted, and what lasts was checked", status == 0 and
-                said.startswith("accepted: 2 ") and "only" not in said, said)
+                "\naccepted: 2 " in said and "only" not in said, said)
 
 
 def try_told(steps, folder):
@@ -52,12 +55,46 @@ def try_told(steps, folder):
     def tell(kind, words, more):
         few = ["--seeds", "1-5", "--timeout", "3", "--budget", "10", "--keep", os.path.join(folder, kind)]
         status, said, _ = probe(*few, "--", *unusual(kind, *more))
-        advised = re.findall("^probe: .* play again with (--(?:limits|without|skip) .*)$", said, re.MULTILINE)
+        advised = re.findall("^probe: .* play again with (--(?:limits|without|skip|paths) .*)$", said, re.MULTILINE)
         steps.check(f"{kind}: differences, and {' '.join(words)} is advised", status == 1 and
                     advised == [" ".join(words)], said)
         status, said, _ = probe(*few, *words, "--", *unusual(kind, *more))
         steps.check(f"{kind}, {' '.join(words)}: accepted", status == 0, said)
     side_by_side(tell, TOLD)
+
+
+def try_bugs_in(steps, folder):
+    """What is said of a server hides no bug: a sound one that is said to resolve paths by their text, one that does so
+    and has a bug, and one that nobody is to change, where files can be removed."""
+    def find(name, words, server, wanted):
+        few = ["--seeds", "1-4", "--budget", "0", "--keep", os.path.join(folder, name)]
+        status, said, _ = probe(*few, *words, "--", *server)
+        steps.check(f"{name}, {' '.join(words)}: {wanted}", status == 1 and wanted in said and
+                    "play again with --" not in said, said)
+    by_text, unchanged = ["--paths", "text"], ["--without", "changes"]
+    removed = "REMOVE: STATUS with code 0 (OK); expected: a refusal, since the server changes nothing"
+    side_by_side(find, [
+        ("a sound server", by_text, SERVE, "; expected: "),
+        ("a wrong byte by text", by_text, stand_in("planted", "wrong-byte", unusual("paths-by-text")),
+         "READ: DATA with other bytes"),
+        ("read-only-but-removes", unchanged, unusual("read-only-but-removes"), removed),
+        ("a wrong byte that nobody changes", unchanged, stand_in("planted", "wrong-byte", unusual("read-only")),
+         "READ: DATA with other bytes")])
+
+
+def try_links_that_leave(steps, folder):
+    """A server of a folder, whose links with absolute targets lead out of it: that is said, and can be left out."""
+    live = "{folder}/live"
+    server = stand_in("unusual", "links-leave", [program(), "serve", "--tree", live, "--save", live])
+    few = ["--seeds", "1-6", "--budget", "0", "--keep", os.path.join(folder, "leave")]
+    words = [*few, "--reset", f"cp {{tree}} {live}"]
+    status, said, _ = probe(*words, "--", *server)
+    steps.check("links that leave a folder: a line says so", status == 1 and "such a link leaves that folder" in said
+                and "play again with --skip absolute-links\n" in said, said)
+    status, said, _ = probe(*words, "--skip", "absolute-links", "--", *server)
+    steps.check("links that leave a folder, --skip absolute-links: accepted", status == 0, said)
+    status, said, _ = probe(*few, "--", *unusual("links-leave"))
+    steps.check("the same without a folder: it is not excused", status == 1 and "absolute-links" not in said, said)
 
 
 def try_one_at_a_time(steps, folder):
@@ -104,4 +141,5 @@ def try_not_told(steps, folder):
     steps.check("sftpv3 serve with little room is accepted", status == 0, said)
 
 
-TRIALS = (try_accepted, try_kept, try_told, try_one_at_a_time, try_umask, try_not_told)
+TRIALS = (try_accepted, try_kept, try_told, try_bugs_in, try_links_that_leave, try_one_at_a_time, try_umask,
+          try_not_told)

@@ -105,7 +105,8 @@ class Fields:
         return found
 
     def attributes(self) -> dict[str, Any]:
-        flags, found = self.uint32(), {}
+        flags = self.uint32()
+        found: dict[str, Any] = {}
         if self.strict and flags & ~KNOWN:
             raise Malformed("attributes have a flag that is not known", "Flags")
         if flags & SIZE:

@@ -1,6 +1,6 @@
 """Faults of servers in handles, in counts, in what follows a refused request, and in what a request sets."""
 from sftpv3 import codec
-from sftpv3.faults.kinds import FAR, Refuses, alter, ask_now, code_of, set_to, sets_size, shown, without
+from sftpv3.faults.kinds import FAR, Fault, Refuses, alter, ask_now, code_of, set_to, sets_size, shown, without
 from sftpv3.faults.writes import write_lost_by_count
 
 
@@ -22,6 +22,15 @@ class failed_opens_leak(Refuses):
 
     def refuses(self, asked):
         return asked.name == self.REQUEST and self.failed >= self.COUNT
+
+
+class opens_leak(failed_opens_leak):
+    """OPEN fails behind {COUNT} that were done."""
+
+    COUNT = 900
+
+    def answer(self, asked, reply):
+        self.failed += asked.name == self.REQUEST and reply[4] == codec.HANDLE
 
 
 failed_listings_leak = failed_opens_leak.but("OPENDIR fails behind {COUNT} that failed.", REQUEST="OPENDIR", COUNT=60)
@@ -63,6 +72,26 @@ def same_size_empties(self, asked):
         given = self.attributes_now("STAT" if asked.name == "SETSTAT" else "FSTAT", asked.fields[0])
         if given and given["size"] == asked.fields[1]["size"]:
             return [self.another(asked.name, asked.fields[0], {"size": 0}), asked]
+
+
+owner_lost_with_size = set_to(
+    "SETSTAT and FSETSTAT of an owner together with a size set the size alone.",
+    lambda self, asked, given: without(given, "owner") if "size" in given else given, WHAT="owner")
+owner_lost_with_times = set_to(
+    "SETSTAT of an owner together with times alone sets the times.",
+    lambda self, asked, given: without(given, "owner") if given.keys() == {"owner", "times"} else given, WHAT="owner",
+    NAMES=("SETSTAT",))
+
+
+class settings_wear_out(Fault):
+    """A SETSTAT behind {COUNT} of them is told done."""
+
+    COUNT, settings = 400, 0
+
+    def alter(self, asked):
+        self.settings += asked.name == "SETSTAT"
+        if asked.name == "SETSTAT" and self.settings > self.COUNT:
+            asked.fields[1].clear()
 
 
 permissions_at_limit = set_to(

@@ -24,6 +24,19 @@ def link_replaced_unseen(self, asked):
         asked.fields[0] = self.stale.get(clean(asked.fields[0]), asked.fields[0])
 
 
+@alter(listed=set, moved=dict, anew=set)
+def listing_of_renamed_kept(self, asked):
+    """OPENDIR of a path that was listed opens what was there then, though that was renamed and a MKDIR came since."""
+    path = clean(asked.fields[0]) if asked.name in ("OPENDIR", "MKDIR") else None
+    if asked.name in MOVES and paths_of(asked)[0] in self.listed:
+        self.moved[paths_of(asked)[0]] = paths_of(asked)[1]
+    if asked.name == "MKDIR" and path in self.moved:
+        self.anew.add(path)
+    if asked.name == "OPENDIR":
+        self.listed.add(path)
+        asked.fields[0] = self.moved[path] if path in self.anew else asked.fields[0]
+
+
 class stays_absent_below(Fault, absent=set, put=set):
     """STAT and LSTAT find nothing at a path at which they found nothing before, if RENAME of a directory put something
     there."""

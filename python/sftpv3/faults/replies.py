@@ -87,7 +87,7 @@ class large_write_fails(Fault):
 
 far_size_done = code(
     "SETSTAT and FSETSTAT of 2^63 bytes or more are told done.", lambda self, asked, code:
-    codec.OK if asked.name in SETS and asked.fields[1].get("size", 0) >= 2 ** 63 else code, HIDDEN_BY=("limits",))
+    codec.OK if asked.name in SETS and asked.fields[1].get("size", 0) >= 2 ** 63 else code)
 absent_is_failure = code(
     "STAT and LSTAT of what is not there are answered with FAILURE.", lambda self, asked, code:
     codec.FAILURE if asked.name in LOOKS and code == codec.NO_SUCH_FILE else code, HIDDEN_BY=("codes",))

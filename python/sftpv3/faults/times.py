@@ -37,6 +37,11 @@ access_time_lost = times_set("SETSTAT and FSETSTAT set both times to that of mod
                              lambda self, asked, given: {**given, "times": (given["times"][1],) * 2})
 
 
+seconds_in_twos = times_set(
+    "SETSTAT and FSETSTAT keep the even second before a time.",
+    lambda self, asked, given: {**given, "times": tuple(one & ~1 for one in given["times"])})
+
+
 class Touching(Fault):
     """What is asked makes the time of modification another, though nothing is modified."""
 

@@ -1,6 +1,8 @@
 """Scenes for what people get wrong who write a server: READs through a buffer, listings that go on by index, and what
 is at the edges of blocks. Each has names of its own, as those of transfers.py have."""
-from sftpv3.probe.dating import owner
+from itertools import combinations
+
+from sftpv3.probe.dating import owner, times
 from sftpv3.probe.plans import with_count
 from sftpv3.probe.renewals import filled
 from sftpv3.probe.transfers import CREAT, EXCL, NAMES_AT_ONCE, READ, TRUNC, WRITE
@@ -118,6 +120,22 @@ def changing_group(p):
     yield p.ask("CLOSE", step.opened())
 
 
+def setting_pairs(p):
+    """Each two attributes that SETSTAT and FSETSTAT set together, and times alone: both are set, and nothing else.
+    Those with a size come last."""
+    path, _, step = yield from filled(p, b"paired", 500)
+    pairs = [("times",), *combinations(("times", "permissions", "owner", "size"), 2)]
+    for turn, pair in enumerate(sorted(pairs, key=lambda one: "size" in one)):
+        for number, (name, thing) in enumerate((("SETSTAT", path), ("FSETSTAT", step.opened())), 2 * turn):
+            given = {"permissions": 0o604 + 8 * number, "size": 480 - 20 * number, **owner(p, 5 + number, 6 + number),
+                     **times(p)}
+            yield p.ask(name, thing, {field: given[field] for field in pair if field in given})
+            yield p.ask("STAT", path)
+        yield p.ask("FSTAT", step.opened())
+    yield p.ask("READ", step.opened(), 0, 600)
+    yield p.ask("CLOSE", step.opened())
+
+
 # Each comes each so many seeds, first with that seed, as in `planner.PERIODS`.
 PERIODS = [
     ("transfers", reading_near, 5, 1),
@@ -127,4 +145,5 @@ PERIODS = [
     ("transfers", at_edges, 7, 4),
     ("transfers", granting_nothing, 7, 1),
     ("transfers", changing_group, 7, 6),
+    ("transfers", setting_pairs, 9, 4),
 ]

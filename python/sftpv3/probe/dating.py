@@ -140,8 +140,36 @@ def dated_whole(p):
     yield p.ask("CLOSE", step.opened())
 
 
+def dated_oddly(p):
+    """Times of odd seconds, which file systems lose that count in twos, are kept: by a path, through a handle, in a
+    listing, and when the file gets another name."""
+    folder, path, new = p.blank(b"dated-odd"), b"/dated", b"/dated.new"
+    yield p.ask("MKDIR", folder, {})
+    yield from upload(p, folder + path, Content(p.random, 60))
+    yield p.ask("SETSTAT", folder + path, odd(p))
+    yield p.ask("STAT", folder + path)
+    yield from listing(p, folder, 1)
+    step = p.ask("OPEN", folder + path, READ | WRITE, {})
+    yield step
+    yield p.ask("FSETSTAT", step.opened(), odd(p))
+    yield p.ask("FSTAT", step.opened())
+    yield p.ask("CLOSE", step.opened())
+    yield p.ask("RENAME", folder + path, folder + new)
+    yield p.ask("LSTAT", folder + new)
+    yield p.ask("SETSTAT", folder, odd(p))
+    yield p.ask("LSTAT", folder)
+
+
+def odd(p):
+    """Times of odd seconds."""
+    return {"times": tuple(one + 1 for one in times(p)["times"])}
+
+
+# The name of this scene.
+ODD = "dated-oddly"
+
 # Each session has one of them: as in `planner.PERIODS`.
 PERIODS = [("transfers", dated_file, 3, 1), ("transfers", dated_upload, 3, 2), ("transfers", dated_folder, 3, 0)]
 
 # These come apart from the others, since the times of one thing are followed at a time.
-MORE = [("transfers", dated_sync, 7, 2), ("transfers", dated_whole, 7, 6)]
+MORE = [("transfers", dated_sync, 7, 2), ("transfers", dated_whole, 7, 6), ("odd-seconds", dated_oddly, 7, 3)]

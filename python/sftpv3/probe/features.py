@@ -19,9 +19,11 @@ FEATURES = {
     "large-owner": "attributes with a user or a group above 65,535",
     "sticky": "permissions with 01000, the sticky bit",
     "times": "attributes with times of access and modification",
+    "odd-seconds": "times of odd seconds, which FAT does not keep",
     "new-owner": "OPEN and MKDIR with a user and a group",
     "new-permissions": "OPEN and MKDIR with permissions",
     "extended-pairs": "attributes with extended pairs",
+    "setstat-size": "SETSTAT of a size",
     "size-and-more": "SETSTAT and FSETSTAT of a size together with other attributes",
     "append": "OPEN with APPEND",
     "append-read": "READ through a handle that is open with APPEND",
@@ -30,6 +32,8 @@ FEATURES = {
     "excl-dangling": "OPEN with EXCL of a link that leads to nothing, where it might make a file",
     "rename-over": "RENAME to a place that is taken",
     "rename-dangling": "RENAME of a link to the place of a link that leads to nothing",
+    "rename-over-dangling": "RENAME of anything to the place of a link that leads to nothing",
+    "absolute-links": "links with absolute targets",
     "moved-listing": "what moves a directory that is open, or takes its path away",
     "removed-name": "what takes a name out of a directory that is open",
     "removed-open": "RMDIR of a directory that is open",
@@ -82,11 +86,13 @@ def of_request(name, fields):
         "large-owner": max(given.get("owner", (0,))) > 65535,
         "huge": name != "OPEN" and any(number >= 2 ** 31 for number in numbers),
         "long-target": name == "SYMLINK" and len(fields[0]) < PATH_LIMIT and longest_name(fields[0]) > NAME_LIMIT,
+        "absolute-links": name == "SYMLINK" and fields[0].startswith(b"/"),
         "sticky": bool(given.get("permissions", 0) & 0o1000),
         "times": "times" in given,
         "new-owner": name in ("OPEN", "MKDIR") and "owner" in given,
         "new-permissions": name in ("OPEN", "MKDIR") and "permissions" in given,
         "extended-pairs": "extended" in given,
+        "setstat-size": name == "SETSTAT" and "size" in given,
         "size-and-more": "size" in given and len(given) > 1,
         "append": name == "OPEN" and bool(fields[1] & codec.APPEND),
     }
@@ -176,8 +182,8 @@ def of_rename(planner, step, old, new):
     model = planner.model
     moved, taken = (model.at(model.walk(path, False)) for path in (old, new))
     found = {"rename-over"} if taken else set()
-    if moved and taken and moved.kind == LINK == taken.kind and not model.at(model.walk(new, True)):
-        found.add("rename-dangling")
+    if taken and taken.kind == LINK and not model.at(model.walk(new, True)):
+        found |= {"rename-over-dangling"} | ({"rename-dangling"} if moved and moved.kind == LINK else set())
     return found | of_move(planner, step, old, new)
 
 

@@ -12,7 +12,7 @@ A kind that was not shrunk goes behind another if in each of its sessions it cam
 import re
 
 from sftpv3 import codec
-from sftpv3.probe import needs
+from sftpv3.probe import needs, unheld
 from sftpv3.probe.model import Model, apply
 
 KINDS = {"04": "a directory", "10": "a file", "12": "a link"}
@@ -105,6 +105,8 @@ class Group:
         lines = self.likeness.lines() if self.likeness else []
         lines += [f"request: {self.request}", f"causes: {', '.join(self.causes) or 'none'}",
                  f"expected: {self.expected}", f"found: {self.found}"]
+        told = unheld.of_difference(self.first)
+        lines += [f"not modelled: {told.text}"] if told else []
         lines += [f"allowed by: {self.allowed}"] if self.allowed else []
         lines += [f"accepted with: {' or '.join(self.accepted_with)}"] if self.accepted_with else []
         session = (self.shortest.difference if self.shortest else self.first).session
@@ -155,7 +157,7 @@ def key_of(difference):
 def plain_key(difference):
     """The same, whether or not the server had been started again."""
     verdict = difference.verdict
-    if verdict.kind == "Times":
+    if verdict.kind in ("Times", "Changed"):
         return difference.name, (), difference.expected, difference.found
     if verdict.kind == "Leak":
         return difference.name, (), difference.expected, "descriptors more"
@@ -169,17 +171,28 @@ def plain_key(difference):
     found = found or of_reply(verdict.lines.get("reply", ""))
     causes = tuple(sorted(cause for cause in causes if cause != "none"))
     expected, found = alike(expected, found)
-    if verdict.kind == "NotModelled":
+    if verdict.kind == "NotModelled" and not is_told_done(difference):
         found += f" (NotModelled: {verdict.lines.get('not modelled', 'the request')})"
     return difference.name, causes, expected, found
+
+
+def is_told_done(difference):
+    """Whether what the tree could not hold was told done, and was not: a bug, though the audit says NotModelled."""
+    told = unheld.of_difference(difference)
+    return told is not None and told.is_bug
 
 
 def of_reply(line):
     """What a line of `show` says of a reply: `6 S STATUS 3 21 code 0`."""
     words = line.split()
     if len(words) > 6 and words[2] == "STATUS":
-        return f"STATUS with code {words[6]} ({codec.code_name(int(words[6]))})"
+        return of_code(int(words[6]))
     return words[2] if len(words) > 2 else line
+
+
+def of_code(code):
+    """The same, of a STATUS with this code."""
+    return f"STATUS with code {code} ({codec.code_name(code)})"
 
 
 def alike(expected, found):

@@ -8,7 +8,8 @@ import os
 
 from sftpv3 import codec
 from sftpv3.codec import trees
-from sftpv3.probe import features, groups, lacking, plans, restarts, set_times, verdicts
+from sftpv3.probe import features, groups, lacking, offers, plans, restarts, set_times
+from sftpv3.probe.offers import of_kinds
 
 # The most seconds that all of this takes.
 SECONDS = 20
@@ -79,8 +80,13 @@ def of_difference(difference, auditor, tree_file, stop):
     if difference.verdict.kind != "NotAllowed":
         return []
     given, found = pairs_of(auditor.options), []
-    for option, value in otherwise(given, has_links(difference), is_of_made(difference)):
-        other = verdicts.Auditor(auditor.program, os.path.dirname(tree_file), joined(given, option, value))
+    others = otherwise(given, has_links(difference), is_of_made(difference))
+    if not auditor.by_text and offers.is_spelled(difference, "--symlink" in given):
+        others.append(offers.BY_TEXT)
+    for option, value in others:
+        is_by_text = (option, value) == offers.BY_TEXT
+        other = auditor.with_options(os.path.dirname(tree_file), auditor.options if is_by_text else
+                                     joined(given, option, value), auditor.by_text or is_by_text)
         verdict = other.judge(tree_file, difference.records, stop)
         if verdict.accepted or (verdict.record or 0) > difference.verdict.record:
             found.append(f"{option} {value}")
@@ -93,10 +99,14 @@ def departures(group):
     return {*found, *(["made"] if "--allow made" in group.accepted_with else [])}
 
 
-def advice(found, auditor):
-    """What to say of the groups that were found, if other options may suit the server."""
+def advice(found, auditor, folder_tree=None):
+    """What to say of the groups that were found, if other options may suit the server. `folder_tree` is the tree of one
+    that serves a folder."""
+    unchanged = offers.of_changes(found)
     said = [of_profile(found, auditor), of_lacking(found), of_listed(found), of_packets(found), of_handles(found),
-            of_access(found), of_refused(found)]
+            of_access(found), offers.of_seconds(found), offers.of_paths(found), unchanged,
+            folder_tree and offers.of_links(found, folder_tree),
+            None if unchanged else of_refused(found)]
     return [line for line in said if line]
 
 
@@ -221,11 +231,6 @@ def beside(jobs):
     """What to say of a server that did not start, with so many side by side; None if it was alone."""
     return (f"up to {jobs} servers ran side by side: if only one of yours can, as with a lock or a port of its own, "
             "play again with --jobs 1") if jobs > 1 else None
-
-
-def of_kinds(count, found):
-    """How many of these groups are meant."""
-    return f"{count} of {len(found)} kinds {'is' if count == 1 else 'are'}" if len(found) > 1 else "the difference is"
 
 
 def put_hints(found, auditor, tree, folder, stop):

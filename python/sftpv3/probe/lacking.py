@@ -5,14 +5,15 @@ objects, of what is in memory only, of exFAT. What is kept of a session is what 
 
 Times of access are set together with those of modification, and so they are set, but not compared: file systems keep
 the day alone, as FAT, or none. Where names are listed without attributes, nothing is listed: what they would show,
-nobody but the audit knows."""
+nobody but the audit knows. Of a server that changes nothing readonly.py judges what would change something."""
 import copy
 from contextlib import suppress
 
 from sftpv3 import codec
 from sftpv3.codec import trees
 
-OWNERS, PERMISSIONS, ACCESS, LISTED = NAMES = "owners", "permissions", "access-times", "listed-attributes"
+OWNERS, PERMISSIONS, ACCESS, LISTED, CHANGES = NAMES = (
+    "owners", "permissions", "access-times", "listed-attributes", "changes")
 
 # The attributes of requests that are left out.
 FIELDS = {OWNERS: "owner", PERMISSIONS: "permissions"}
@@ -40,6 +41,9 @@ class Lacking:
 
     def has_access_times(self):
         return ACCESS not in self.given
+
+    def has_changes(self):
+        return CHANGES not in self.given
 
     def tree(self, tree):
         """The tree as this server has it."""

@@ -11,7 +11,7 @@ from sftpv3.codec import kinds, wording
 from sftpv3.page import exchanges
 from sftpv3.peer import servers
 from sftpv3.peer.options import count, flying, pause, positive, seconds
-from sftpv3.probe import features, lacking, plans, refusals, shrinking
+from sftpv3.probe import bytext, features, lacking, plans, readonly, refusals, shrinking
 from sftpv3.probe.workloads import WORKLOADS
 from sftpv3.system import files, inputs, program
 from sftpv3.system.parsers import Parser, names_among
@@ -187,7 +187,9 @@ def add_of_plans(add):
              "two-clients, which play each session together, one request at a time")
     add("--without", metavar="NAME,...", type=names_among(lacking.NAMES), default=[],
         help="what the server does not have: owners, permissions, access-times; none are set, and those that it shows "
-             "not judged; and listed-attributes, without which nothing is listed")
+             "not judged; listed-attributes, without which nothing is listed; and changes: nobody can change its files")
+    add("--paths", metavar="HOW", choices=[bytext.TEXT],
+        help="how the server resolves paths: text, so that `..` takes away the name before it, whatever is there")
     add("--limits", metavar="NAME=N,...", type=room, default=plans.Room(),
         help="what the server has room for, if it does not tell that itself (limits@openssh.com): packet=N, the bytes "
              f"of the longest packet that it takes, from {plans.EACH_TAKES} on, and handles=N, how many are open at a "
@@ -285,11 +287,18 @@ def check_clients(found, given):
     for option, value in (("--look-first", given.look_first), ("--session", given.session), ("--also", given.also),
                           ("--in-flight", given.in_flight), ("--quick", given.quick), ("--known", given.known),
                           ("--last-failed", given.last_failed), ("--max-kinds", given.max_kinds),
-                          ("--checks", given.checks)):
+                          ("--checks", given.checks), ("--paths", given.paths)):
         if value:
             found.error(f"--clients excludes {option}")
     if given.report and given.report.endswith((".html", ".htm")):
         found.error("--clients makes no page: the report is JUnit if its name ends in .xml, else JSON lines")
+
+
+def check_changes(found, given):
+    """Refuses what needs a server whose files can be changed."""
+    for option, value in (("--look-first", given.look_first), ("--clients", given.clients)):
+        if value:
+            found.error(f"{option} makes files on the server: it excludes --without {lacking.CHANGES}")
 
 
 def options(about):
@@ -304,6 +313,9 @@ def options(about):
         found.error("--start-again names a request of --session")
     if given.clients:
         check_clients(found, given)
+    if lacking.CHANGES in given.without:
+        check_changes(found, given)
+        given.skip = [*given.skip, *readonly.LEFT_OUT]
     wanted = (("--clients", given.clients), ("--start-again", given.start_again),
               ("two-clients", features.TOGETHER in given.also))
     option = next((name for name, is_given in wanted if is_given), None)

@@ -13,8 +13,8 @@ import itertools
 import random
 
 from sftpv3 import codec
-from sftpv3.probe import (buffers, crossings, dating, deeper, features, holdings, meetings, pairs, refusals, remains,
-                          renewals, scenes, takeovers, transfers)
+from sftpv3.probe import (buffers, crossings, dating, deeper, features, holdings, meetings, often, pairs, refusals,
+                          remains, renewals, scenes, squares, takeovers, transfers)
 from sftpv3.probe.model import DIRECTORY, FILE, LINK, Model, apply
 from sftpv3.probe.plans import Handle, Step
 from sftpv3.probe.transfers import listing
@@ -302,7 +302,10 @@ def ids_of(seed):
 # The scenes that come behind all others, each row by a planner of its own, whose random numbers its word is for.
 BEHIND = [("further", crossings.PERIODS), ("dated", dating.PERIODS), ("remaining", remains.PERIODS),
           ("dated again", dating.MORE), ("taking", takeovers.PERIODS), ("holding", holdings.PERIODS),
-          ("deeper", deeper.PERIODS + buffers.PERIODS)]
+          ("deeper", deeper.PERIODS + buffers.PERIODS), ("wearing", often.PERIODS)]
+
+# Those that look at all that they made by themselves, and have no end.
+WHOLE = "squared"
 
 
 def name_of(scene):
@@ -312,7 +315,7 @@ def name_of(scene):
 
 def scenes():
     """All scenes by their names, in the order in which plans have them."""
-    rows = [*PERIODS, *(row for _, periods in BEHIND for row in periods), *takeovers.OF_START]
+    rows = [*PERIODS, *(row for _, periods in BEHIND for row in periods), *takeovers.OF_START, *squares.PERIODS]
     found = [*WEIGHTS, *TRANSFERS, *(scene for _, scene, *_ in rows), read_back, all_back]
     return {name_of(scene): scene for scene in found}
 
@@ -331,6 +334,7 @@ def plan(seed, tree, count, skip=(), left_out=None):
     for planner, (_, periods) in zip(others, BEHIND):
         steps += planner.large(of_seed(seed, periods))
     steps += small.large(of_seed(seed, takeovers.OF_START))
+    steps += Planner(f"{WHOLE} {seed}", tree, skip, numbers, named, left_out).large(of_seed(seed, squares.PERIODS))
     for planner in (large, small, *others):
         steps += planner.large([("read-back", all_back if planner is small else read_back)])
     return steps

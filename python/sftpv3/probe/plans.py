@@ -67,7 +67,12 @@ class Step(codec.Request):
 
 def with_count(scene, count):
     """The function of a scene, with so many of what it makes in its name."""
-    scene.__name__ += f"_of_{count}"
+    return with_word(scene, str(count))
+
+
+def with_word(scene, word):
+    """The function of a scene, with what it is about in its name."""
+    scene.__name__ += f"_of_{word}"
     return scene
 
 

@@ -16,13 +16,13 @@ from sftpv3 import codec
 from sftpv3.codec import trees, wording
 from sftpv3.page import differing, document, exchanges
 from sftpv3.page.picture import counted
-from sftpv3.probe import known, verdicts
+from sftpv3.probe import bytext, known, verdicts
 from sftpv3.system import files, program, ways
 
 
-def keep_server(place, difference, lacking):
-    """Writes into the folder what the server wrote to standard error, how it ended, what it was said to lack, and the
-    whole session, if the one that was judged lacks some of it."""
+def keep_server(place, difference, given):
+    """Writes into the folder what the server wrote to standard error, how it ended, what it was said to be like, and
+    the whole session, if the one that was judged lacks some of it."""
     session = difference.session
     files.write(os.path.join(place, "standard-error.txt"), session.errors)
     files.write_text(os.path.join(place, "server.txt"),
@@ -30,7 +30,8 @@ def keep_server(place, difference, lacking):
                      f"in pieces: {'no' if session.cut is None else 'yes'}\n"
                      f"started again: {started_again(difference)}\n"
                      f"clients: {'two' if session.is_together else 'one'}\n"
-                     f"without: {','.join(lacking) or 'nothing'}\n"
+                     f"without: {','.join(given.without) or 'nothing'}\n"
+                     f"paths: {given.paths or 'by what is there'}\n"
                      f"session: {session.end or 'each request had its reply'}\nended: {session.ending()}\n")
     whole = os.path.join(place, "whole.transcript")
     if session.records != difference.records:
@@ -57,9 +58,12 @@ def keep(judge, given, number, group, kept):
     name = re.sub(r"[^a-z0-9]+", "-", f"{group.request} {group.found}".lower()).strip("-")[:50].strip("-")
     place = os.path.join(files.held(given.keep), f"{number:02}-{name}")
     files.folder(place)
-    keep_server(place, kept.difference, given.without)
+    keep_server(place, kept.difference, given)
     files.write(os.path.join(place, "start.tree"), kept.difference.session.start or trees.put(kept.tree))
     files.write(os.path.join(place, "session.transcript"), codec.put_records(kept.difference.records))
+    if given.paths:
+        seen = bytext.records(kept.difference.records, given.symlink == "draft")
+        files.write(os.path.join(place, "judged.transcript"), codec.put_records(seen))
     texts = {kind: text_of(judge, os.path.join(place, kind)) for kind in ("start.tree", "session.transcript")}
     for kind, text in texts.items():
         files.write_text(os.path.join(place, kind.split(".")[0] + ".txt"), text)

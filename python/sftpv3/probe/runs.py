@@ -162,7 +162,7 @@ class Run:
             starting.without(usual(), given.skip)
         self.recorded = options.read("--session", given.session, plans.steps_of) if given.session else None
         self.program = program.program()
-        auditor = verdicts.Auditor(self.program, folder)
+        auditor = verdicts.Auditor(self.program, folder, by_text=given.paths is not None)
         auditor.options = self.profile(auditor)
         self.auditor = auditor
         self.try_profile(auditor, os.path.join(folder, "asked.tree"))
@@ -387,7 +387,8 @@ class Run:
         budget = None if self.until.is_set() else hints.of_budget(found, self.given.budget)
         start = hints.of_start(found, self.pool.jobs)
         memory = leaks.advice(self.tally.played)
-        known = hints.advice(found, self.auditor)
+        server = self.root.server
+        known = hints.advice(found, self.auditor, self.tree if server.reset or server.has("{folder}") else None)
         return [line for line in (*known, start, self.root.advice(), memory, budget) if line]
 
     def run(self):

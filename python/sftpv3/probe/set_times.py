@@ -24,8 +24,8 @@ MOVERS = {"REMOVE", "RMDIR", "RENAME", "POSIX-RENAME"}
 # Attributes whose change leaves the times as they are.
 BESIDE = {"permissions", "owner"}
 
-# Times that each usual file system keeps: none has those before 1980, and some only even seconds.
-KEPT = range(1 << 29, 1 << 31, 2)
+# Times that each usual file system keeps: none has those before 1980. FAT has only even seconds.
+KEPT = range(1 << 29, 1 << 31)
 
 # The bits of permissions that tell what something is, and what they are of a link.
 KIND, LINK = 0o170000, 0o120000

@@ -36,7 +36,13 @@ MADE_BY = {LINK: "SYMLINK", FURTHER: "HARDLINK"}
 
 def without(tree, skip):
     """A tree of the probe without what no session is to make."""
-    return tree.with_entries([entry for entry in tree.entries if MADE_BY.get(entry.kind) not in skip])
+    return tree.with_entries([entry for entry in tree.entries if MADE_BY.get(entry.kind) not in skip and
+                              not ("absolute-links" in skip and is_absolute(entry))])
+
+
+def is_absolute(entry):
+    """Whether this is a link whose target begins at the root."""
+    return entry.kind == LINK and entry.content.startswith(b"/")
 
 
 def few():

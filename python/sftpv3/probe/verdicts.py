@@ -9,7 +9,7 @@ from typing import Dict, List, Optional, Tuple
 
 from sftpv3 import codec
 from sftpv3.peer import programs, servers
-from sftpv3.probe import groups, lacking, leaks, set_times
+from sftpv3.probe import bytext, groups, lacking, leaks, readonly, set_times
 from sftpv3.probe.sessions import Session, Stopped
 from sftpv3.system.program import of_usage
 
@@ -68,20 +68,29 @@ def explained(why):
 
 class Auditor:
     """Runs `sftpv3 audit --explain` with these options, in a folder for its files. `lacks` is what the server does not
-    have."""
+    have; with `by_text` it resolves paths by their text."""
 
-    def __init__(self, program, folder, options=(), lacks=lacking.Lacking()):
-        self.program, self.options, self.lacks = program, list(options), lacks
+    def __init__(self, program, folder, options=(), lacks=lacking.Lacking(), by_text=False):
+        self.program, self.options, self.lacks, self.by_text = program, list(options), lacks, by_text
         self.file = os.path.join(folder, "judged.transcript")
 
     def in_folder(self, folder):
         """The same with a folder of its own."""
-        return Auditor(self.program, folder, self.options, self.lacks)
+        return Auditor(self.program, folder, self.options, self.lacks, self.by_text)
+
+    def with_options(self, folder, options, by_text):
+        """One that judges the same by other options, which says nothing of what the server lacks."""
+        return Auditor(self.program, folder, options, by_text=by_text)
+
+    def seen(self, records):
+        """The records as the audit is to see them."""
+        link_first = "--symlink" in self.options
+        return bytext.records(records, link_first) if self.by_text else records
 
     def judge(self, tree_file, records, stop=None):
         """The verdict. Raises Stopped, and ends the audit, once `stop` is set."""
         with open(self.file, "wb") as file:
-            file.write(codec.put_records(records))
+            file.write(codec.put_records(self.seen(records)))
         words = [self.program, "audit", "--explain", "--tree", tree_file, "--transcript", self.file] + self.options
         return of_audit(programs.run(words, stop))
 
@@ -172,7 +181,8 @@ def judge(auditor, tree_file, session, seed=0, stop=None):
     """All differences of a session that can be told apart; those found so far, once `stop` is set. Raises Stopped if
     there are none."""
     session.records = auditor.lacks.records(session.records)
-    judged, places = Judged(), list(range(len(session.records)))
+    settled = set() if auditor.lacks.has_changes() else readonly.refused(session.records)
+    judged, places = Judged(), [place for place in range(len(session.records)) if place not in settled]
     while places and len(judged.differences) < MOST_DIFFERENCES:
         records = [session.records[place] for place in places]
         try:
@@ -200,6 +210,7 @@ def judge(auditor, tree_file, session, seed=0, stop=None):
     judged.unjudged += len(behind)
     judged.unjudged_ids |= {codec.id_of(session.records[place][1]) for place in behind}
     judged.differences += of_times(session, seed, auditor.lacks.has_access_times())
+    judged.differences += [] if auditor.lacks.has_changes() else of_changes(session, seed)
     if session.crashed():
         judged.differences.append(of_crash(session, seed))
     judged.differences += of_leak(session, seed)
@@ -211,6 +222,16 @@ def of_times(session, seed, keeps_access):
     for one in set_times.findings(session.records, session.again, keeps_access):
         verdict = Verdict(False, f"{one.asked.name}: {one.found}", one.reply + 1, "Times",
                           {"expected": one.expected, "found": one.found})
+        yield Difference(seed, one.asked.number, one.asked.name, verdict, session.records, session,
+                         one.request, one.reply, session.again)
+
+
+def of_changes(session, seed):
+    """The differences of changes that a server did that is to change nothing."""
+    for one in readonly.done(session.records)[:MOST_DIFFERENCES]:
+        found = "HANDLE" if one.asked.name == "OPEN" else groups.of_code(codec.OK)
+        verdict = Verdict(False, f"{one.asked.name}: {found}", one.reply + 1, "Changed",
+                          {"expected": readonly.REFUSAL, "found": found})
         yield Difference(seed, one.asked.number, one.asked.name, verdict, session.records, session,
                          one.request, one.reply, session.again)
 
