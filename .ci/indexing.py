@@ -1,6 +1,6 @@
-"""The index of the crates, crates/README.md, which is made of what the sources say of themselves and of the words on
-clauses in crates/promises.txt; and what is checked of these: that each function and each clause is there. Of a
-source its first sentence counts, and its functions with their clauses."""
+"""The index of the crates, which is made of what the sources say of themselves and of the words on clauses in
+crates/promises.txt; and what is checked of these: that each function and each clause is there. Of a source its first
+sentence counts, and its functions with their clauses."""
 import re
 import textwrap
 from functools import cache
@@ -83,17 +83,15 @@ def functions_of(file):
     return found
 
 
-INDEX, PROMISES = TOP / "crates/README.md", TOP / "crates/promises.txt"
+PROMISES = TOP / "crates/promises.txt"
 HEAD = """# The files of the crates
 
 Each file with the first sentence of its comment, and of those of its parts, and its public functions that have a
 contract, with the names of their clauses; a function without names in brackets has one clause. Below a file stands what
 clauses say where the comment of the function does not, behind their names in square brackets (`crates/promises.txt`).
 The files of `specs` come in the order of `specs/Lib.antt`, and the subjects of the proofs, which are files and folders,
-in that of `proofs/Lib.antt`: each builds on those before it. `.ci/pages --write` makes this page, and `.ci/pages`
-compares it.
-[ARCHITECTURE.md](../docs/ARCHITECTURE.md) says how the crates stand on each other, and
-[PROMISES.md](../docs/PROMISES.md) what the promises come to.
+in that of `proofs/Lib.antt`: each builds on those before it. docs/ARCHITECTURE.md says how the crates stand on each
+other, and docs/PROMISES.md what the promises come to.
 """
 COLUMNS = 120
 
@@ -181,23 +179,18 @@ def files_of(folder):
     return [*sorted((folder / "src").rglob("*.rt")), *(it for it in listed if it.is_file())]
 
 
-def made_index():
-    lines, items = HEAD.splitlines(), list(items_of(PROMISES.read_text()))
-    for name, folder in crates_here().items():
+def index_of(names):
+    """Returns the index of the crates of these names, or of all where there is none; lowest first. A name that is none
+    of a crate is a KeyError."""
+    folders, items = crates_here(), list(items_of(PROMISES.read_text()))
+    for name in names:
+        folders[name]
+    lines = HEAD.splitlines()
+    for name in [it for it in folders if not names or it in names]:
         lines += ["", f"## {name}", ""]
-        for file in files_of(folder):
-            lines += entry(file, folder, [it for it in items if it.crate == name])
+        for file in files_of(folders[name]):
+            lines += entry(file, folders[name], [it for it in items if it.crate == name])
     return "\n".join(lines) + "\n"
-
-
-def write_index():
-    INDEX.write_text(made_index())
-    return 0
-
-
-def wrong_index():
-    if not INDEX.is_file() or INDEX.read_text() != made_index():
-        yield f"{INDEX.relative_to(TOP)}: not as `.ci/pages --write` makes it"
 
 
 def wrong_promises():

@@ -1,4 +1,4 @@
-"""What `.ci/pages` finds in cases that are lost, in an index that is old, in promises that nothing makes, and in counts
+"""What `.ci/pages` finds in cases that are lost, in promises that nothing makes, and in counts
 of definitions. Expected values are written by hand."""
 import sys
 import tempfile
@@ -82,15 +82,17 @@ class Sources(unittest.TestCase):
 
 
 class Index(unittest.TestCase):
-    def test_index_that_is_old_is_found(self):
-        with tempfile.TemporaryDirectory() as room, mock.patch.object(indexing, "TOP", Path(room)), \
-                mock.patch.object(indexing, "INDEX", Path(room, "README.md")), \
-                mock.patch.object(indexing, "made_index", return_value="new\n"):
-            self.assertEqual(len(list(indexing.wrong_index())), 1)
-            indexing.write_index()
-            self.assertEqual(list(indexing.wrong_index()), [])
-            Path(room, "README.md").write_text("old\n")
-            self.assertEqual(len(list(indexing.wrong_index())), 1)
+    def test_crates_that_are_named_are_in_the_index(self):
+        heads = [it for it in indexing.index_of(["sftp_wire", "sftp_json"]).splitlines() if it.startswith("## ")]
+        self.assertEqual(heads, ["## sftp_json", "## sftp_wire"])
+        self.assertRaises(KeyError, indexing.index_of, ["sftp_absent"])
+
+    def test_each_file_of_each_crate_is_in_the_index(self):
+        index = indexing.index_of([])
+        for name, folder in indexing.crates_here().items():
+            _, _, part = index.partition(f"\n## {name}\n")
+            for file in indexing.files_of(folder):
+                self.assertIn(f"- `{file.relative_to(folder)}`: ", part.partition("\n## ")[0])
 
     def test_names_that_no_source_has_are_found(self):
         page = "\n".join(["# words", "", "sftp_wire", "- `front`: [exact, exacter] x;", "  [only] x [a link](there)",
