@@ -17,6 +17,9 @@ const SUSPECTS: usize = 12;
 
 const ENDS: usize = 12;
 
+/// How many entries are looked at for those that a suspect may lead to.
+const TRIED: usize = 512;
+
 /// The most names of a path at which a link is looked for.
 const NAMES: usize = 64;
 
@@ -146,7 +149,7 @@ impl World {
     /// Proposes what an entry may be.
     fn propose_for(&mut self, at: usize) {
         let mut left = ENDS;
-        for end in 0..self.nodes.len() {
+        for end in 0..self.nodes.len().min(TRIED) {
             if left > 0 && end != at && self.may_lead_to(at, end) {
                 if self.propose_one(at, end) {
                     left = left.saturating_sub(1);
