@@ -14,6 +14,10 @@ const PROPOSALS: usize = 96;
 /// The most refusals for which another reason is tried after a contradiction.
 const GUESSES: usize = 8;
 
+/// What is added to the cost of what adds to a choice whose pass came no further than the one whose contradiction it
+/// was to resolve: so other ways to resolve that are tried first.
+const LAG: usize = 8;
+
 /// How many bytes of memory a choice takes beside its facts.
 const CHOICE_BYTES: u64 = 128;
 
@@ -225,21 +229,40 @@ impl Choices {
             return Ok(choice);
         }
         let learned = std::mem::replace(&mut world.learned, Vec::new(self.alloc));
-        let cost = self.cost(choice);
+        let (cost, progress) = (self.cost(choice), self.progress(choice));
         self.add(Choice {
             parent: Some(choice),
             facts: learned,
             take: None,
             cost,
-            progress: 0,
+            progress,
             is_waiting: false,
         })
     }
 
-    pub(crate) fn cost(&self, choice: usize) -> usize {
+    fn cost(&self, choice: usize) -> usize {
         match self.each.get(choice) {
             Some(choice) => choice.cost,
             None => 0,
+        }
+    }
+
+    /// How far the pass came whose contradiction a choice may resolve; no pass came so far for the first choices.
+    fn progress(&self, choice: usize) -> u64 {
+        match self.each.get(choice) {
+            Some(choice) => choice.progress,
+            None => u64::MAX,
+        }
+    }
+
+    /// The cost of the first choice that adds to this one.
+    pub(crate) fn cost_from(&self, base: Base) -> usize {
+        let before = self.progress(base.index);
+        let cost = self.cost(base.index);
+        if before != u64::MAX && base.progress <= before {
+            cost.saturating_add(LAG)
+        } else {
+            cost
         }
     }
 
@@ -269,7 +292,7 @@ impl Choices {
             progress,
         };
         let guesses = world.guesses.as_slice();
-        let cost = self.guess_otherwise(from, self.cost(base), guesses, told, true)?;
+        let cost = self.guess_otherwise(from, self.cost_from(from), guesses, told, true)?;
         let cost = self.add_each(from, cost, world.proposals.as_slice())?;
         self.guess_otherwise(from, cost, guesses, found, false)?;
         Ok(())

@@ -195,7 +195,7 @@ impl World {
     fn rename_from(&mut self, from: &Found<'_>, new: &[u8]) -> Result<(), Stop> {
         let at = self.entry_of(from, Sort::Unknown)?;
         let to = self.reach_free(new)?;
-        let done = self.move_to(from, at, &to);
+        let done = self.move_out(from, at, &to);
         drop(to);
         done
     }
@@ -213,10 +213,49 @@ impl World {
         let to = self.reach(new, false)?;
         let done = match to.look {
             Look::Entry(other) if other == at => Ok(()),
-            _ => self.move_to(from, at, &to),
+            Look::Entry(other) => self.replace_entry(from, at, &to, other),
+            _ => self.move_out(from, at, &to),
         };
         drop(to);
         done
+    }
+
+    /// Moves an entry to the name of another one, which is a directory if that is one, and has no entries then.
+    fn replace_entry(
+        &mut self,
+        from: &Found<'_>,
+        at: usize,
+        to: &Found<'_>,
+        other: usize,
+    ) -> Result<(), Stop> {
+        if self.settings.is_strict {
+            self.fit_replaced(at, other)?;
+        }
+        self.move_out(from, at, to)
+    }
+
+    fn fit_replaced(&mut self, at: usize, other: usize) -> Result<(), Stop> {
+        if self.sort(at) != Sort::Directory && self.sort(other) != Sort::Directory {
+            return Ok(());
+        }
+        self.set_sort(at, Sort::Directory);
+        self.set_sort(other, Sort::Directory);
+        if self.sort(at) != self.sort(other) {
+            return Err(self.clash_of(other, What::Kind(self.sort(other), self.sort(at))));
+        }
+        if let Some(told) = self.entry_told(other) {
+            return Err(self.clash_at(other, told, What::Entries));
+        }
+        self.complete(other);
+        Ok(())
+    }
+
+    /// Moves an entry, which is no directory on the way to its new name.
+    fn move_out(&mut self, from: &Found<'_>, at: usize, to: &Found<'_>) -> Result<(), Stop> {
+        if self.settings.is_strict && self.is_above(at, to.parent) {
+            return Err(self.clash_of(at, What::Kind(Sort::Directory, Sort::Link)));
+        }
+        self.move_to(from, at, to)
     }
 
     /// Moves an entry from one name to another.

@@ -381,7 +381,7 @@ impl World {
     /// The target of a link is not known.
     fn grant_target(&mut self, at: usize, asks: Asks) -> Result<(), Stop> {
         match asks {
-            Asks::Astray => self.lead_astray(at),
+            Asks::Astray | Asks::Lost => self.lead_astray(at),
             Asks::Loops => self.lead_looped(at),
             _ => self.invent_target(at),
         }

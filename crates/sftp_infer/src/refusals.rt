@@ -180,7 +180,7 @@ impl World {
     }
 
     /// Whether a directory is another one, or above it.
-    fn is_above(&self, above: usize, below: usize) -> bool {
+    pub(crate) fn is_above(&self, above: usize, below: usize) -> bool {
         let mut at = below;
         for _ in 0..DEPTH {
             if at == above {
@@ -204,7 +204,8 @@ impl World {
                     let asked = self.asked;
                     self.guesses.push(Guess { asked, others })?;
                 }
-                self.take_reason(case, chosen.reason)
+                self.take_reason(case, chosen.reason)?;
+                self.confirm(case, code)
             }
             None => self.leave_unexplained(case),
         }
@@ -275,6 +276,28 @@ impl World {
             (Some(asks), Some(new)) => self.grant(new, false, asks),
             _ => Ok(()),
         }
+    }
+
+    /// Whether the refusal follows from what is known, once a reason was taken: what is known may be in that one's way.
+    fn confirm(&mut self, case: &Case<'_>, code: u32) -> Result<(), Stop> {
+        if self.is_explained(case, code)? {
+            return Ok(());
+        }
+        self.leave_unexplained(case)
+    }
+
+    fn is_explained(&mut self, case: &Case<'_>, code: u32) -> Result<bool, Stop> {
+        let old = self.see(case.old, case.follows)?;
+        let new = match case.new {
+            Some(new) => self.see(new, false)?,
+            None => old,
+        };
+        for reason in case.reasons {
+            if let Some(0) = self.cost_of_reason(old, new, *reason, code) {
+                return Ok(true);
+            }
+        }
+        Ok(false)
     }
 
     /// No reason is left. What is at the end of the first path may be something else than it seems.

@@ -298,12 +298,11 @@ impl<'a> Search<'a> {
     /// Adds choices in which refusals before this record have other reasons.
     fn guess_before(&mut self, found: u64) -> Result<(), NoMemory> {
         let guesses = std::mem::replace(&mut self.guesses, Vec::new(self.alloc));
-        let last = self.last;
-        let cost = self.choices.cost(last);
         let base = Base {
-            index: last,
+            index: self.last,
             progress: found.saturating_add(HEARD),
         };
+        let cost = self.choices.cost_from(base);
         let next = self
             .choices
             .guess_otherwise(base, cost, guesses.as_slice(), found, false);

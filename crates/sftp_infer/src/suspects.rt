@@ -17,6 +17,9 @@ const SUSPECTS: usize = 12;
 
 const ENDS: usize = 12;
 
+/// How many entries are looked at for those that a suspect may lead to.
+const TRIED: usize = 512;
+
 /// The most names of a path at which a link is looked for.
 const NAMES: usize = 64;
 
@@ -146,10 +149,11 @@ impl World {
     /// Proposes what an entry may be.
     fn propose_for(&mut self, at: usize) {
         let mut left = ENDS;
-        for end in 0..self.nodes.len() {
+        for end in 0..self.nodes.len().min(TRIED) {
             if left > 0 && end != at && self.may_lead_to(at, end) {
-                left = left.saturating_sub(1);
-                self.propose_one(at, end);
+                if self.propose_one(at, end) {
+                    left = left.saturating_sub(1);
+                }
             }
         }
     }
@@ -165,16 +169,32 @@ impl World {
         other.sort != Sort::Link && (is_open || other.sort == sort || other.sort == Sort::Unknown)
     }
 
-    fn propose_one(&mut self, at: usize, end: usize) {
-        if self.sort(at) == Sort::File && self.sort(end) == Sort::File {
-            if let Some(place) = self.old_text(end) {
-                self.propose_of(at, Says::SameFile(place));
-            }
+    /// Proposes that an entry leads to another one, and says whether there is a way to.
+    fn propose_one(&mut self, at: usize, end: usize) -> bool {
+        let is_same = self.propose_name_of(at, end);
+        if self.entry(at).is_itself && self.sort(at) != Sort::Link {
+            return is_same;
         }
-        if !self.entry(at).is_itself || self.sort(at) == Sort::Link {
-            if let Some(target) = self.target_to(at, end, self.entry(at).length) {
+        match self.target_to(at, end, self.entry(at).length) {
+            Some(target) => {
                 self.propose_of(at, Says::Link(target));
+                true
             }
+            None => is_same,
+        }
+    }
+
+    /// Proposes that two files are one, and says whether both are files of the start.
+    fn propose_name_of(&mut self, at: usize, end: usize) -> bool {
+        if self.sort(at) != Sort::File || self.sort(end) != Sort::File {
+            return false;
+        }
+        match self.old_text(end) {
+            Some(place) => {
+                self.propose_of(at, Says::SameFile(place));
+                true
+            }
+            None => false,
         }
     }
 

@@ -172,9 +172,12 @@ impl World {
         drop(std::mem::replace(&mut link.target, Some(target)));
     }
 
-    /// Has a link lead to where no directory is.
+    /// Has a link lead to where no directory is, or just to where nothing is if it is too short for that.
     pub(crate) fn lead_astray(&mut self, at: usize) -> Result<(), Stop> {
         let length = self.entry(at).length.unwrap_or(10);
+        if length < 3 {
+            return self.invent_target(at);
+        }
         let mut target = self.invented(at, Some(length.saturating_sub(2)))?;
         target.extend_from_slice(b"/x")?;
         self.lead_invented(at, target)

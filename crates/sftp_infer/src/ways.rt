@@ -110,7 +110,7 @@ impl World {
     fn is_end(&self, at: usize, sort: Sort) -> bool {
         let entry = self.entry(at);
         let is_link = sort == Sort::Link;
-        entry.is_old && at != 0 && (entry.sort == sort) != is_link
+        entry.is_old && (entry.sort == sort) != is_link
     }
 
     /// Proposes that an entry is a link to another one, if a target of that one has this length. Says whether one has.
