@@ -105,7 +105,7 @@ def try_absolute(steps, _):
 
 def try_squares(steps, _):
     """The table has what its text says, and plans of 49 seeds have each of its scenes."""
-    pairs, missing = set(), set()
+    pairs, things, missing = set(), set(), set()
     for number, (word, _, fit) in enumerate(squares.REQUESTS):
         rows = squares.rows(number)
         met = [(way, state) for thing, way, state in rows if thing in fit]
@@ -113,9 +113,12 @@ def try_squares(steps, _):
         missing |= {(word, "way", way) for way in range(len(squares.WAYS)) if way not in {it for it, _ in met}}
         missing |= {(word, "state", it) for it in range(len(squares.STATES)) if it not in {state for _, state in met}}
         pairs |= {(way, state) for _, way, state in rows}
+        things |= {(thing, "way", way) for thing, way, _ in rows} | {(thing, "state", it) for thing, _, it in rows}
     steps.check("each request meets each thing, and by each way and in each state one that it is for", not missing,
                 missing)
     steps.check("each way meets each state", len(pairs) == len(squares.WAYS) * len(squares.STATES), len(pairs))
+    steps.check("each thing is reached by each way, and in each state", len(things) == len(squares.THINGS)
+                * (len(squares.WAYS) + len(squares.STATES)), len(things))
     names = [name for seed in range(1, 50) for _, scene in planner.of_seed(seed, squares.PERIODS)
              for name in [planner.name_of(scene)]]
     steps.check("49 seeds have each scene once", len(names) == len(set(names)) == len(squares.REQUESTS), names)

@@ -82,11 +82,11 @@ class whole_of_a_thousand(Paged):
 
 
 class Snapshot(Asks, names=dict, places=dict):
-    """A listing of many names gives those that were there when it began, so many at a time, as far as they are still
-    there."""
+    """A listing of many names, up to 2,000, gives those that were there when it began, so many at a time, as far as they
+    are still there."""
 
-    # How many names one READDIR gives, and of how many on that is so.
-    PAGE, LEAST = 100, 64
+    # How many names one READDIR gives, and of how many and up to how many that is so.
+    PAGE, LEAST, MOST = 100, 64, 2000
 
     def alter(self, asked):
         opener = self.opener(asked)
@@ -94,7 +94,7 @@ class Snapshot(Asks, names=dict, places=dict):
             return
         now = {item[0]: item for item in Paged.items_now(self, opener.fields[0])}
         if opener.number not in self.names:
-            self.names[opener.number] = list(now) if len(now) >= self.LEAST else None
+            self.names[opener.number] = list(now) if self.LEAST <= len(now) <= self.MOST else None
         names, place, given = self.names[opener.number], self.places.get(opener.number, 0), []
         while names is not None and place < len(names) and not given:
             page = names[place:place + self.PAGE]

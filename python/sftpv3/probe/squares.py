@@ -1,7 +1,7 @@
 """Scenes of a table: each request, on each kind of thing, by each way to it, in each state of its handle. A scene has
 one request. By each way and in each state it meets a thing that it is for, and once each other kind of thing, which it
-may not change. Over all scenes each way meets each state. What goes wrong where two meet, and nobody thought of, stands
-in such a square."""
+may not change. Over all scenes each way meets each state, and each kind of thing both. What goes wrong where two meet,
+and nobody thought of, stands in such a square."""
 from sftpv3.probe.dating import times
 from sftpv3.probe.model import FILE
 from sftpv3.probe.plans import with_word
@@ -242,7 +242,7 @@ REQUESTS = [
 def rows(number):
     """The rows of a request: things, with the places of a way and of a state."""
     fit = REQUESTS[number][2]
-    found = [(fit[place % len(fit)], place % len(WAYS), (place + number) % len(STATES))
+    found = [(fit[(place + number) % len(fit)], place % len(WAYS), (place + number) % len(STATES))
              for place in range(max(len(WAYS), len(fit)))]
     others = [thing for thing in THINGS if thing not in fit]
     return found + [(thing, (place + number) % len(WAYS), (2 * place + number) % len(STATES))
