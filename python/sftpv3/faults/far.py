@@ -71,43 +71,47 @@ class far_cut_wraps(Roomy, Settings):
         return {**given, "size": wrapped(given["size"])}
 
 
-class whole_of_a_thousand(Paged):
-    """The first READDIR of 400 to 1,024 names gives all of them in one packet, however long they are."""
+class Snapshot(Asks, items=dict, places=dict):
+    """A listing is taken whole from the sound server by its first READDIR, and given so many names at a time."""
 
-    PAGE, LEAST, MOST = ALL, 400, 1024
-
-    def items_now(self, path):
-        found = super().items_now(path)
-        return found if len(found) <= self.MOST else []
-
-
-class Snapshot(Asks, names=dict, places=dict):
-    """A listing of many names, up to 2,000, gives those that were there when it began, so many at a time, as far as they
-    are still there."""
-
-    # How many names one READDIR gives, and of how many and up to how many that is so.
-    PAGE, LEAST, MOST = 100, 64, 2000
+    # How many names one READDIR gives.
+    PAGE = 100
 
     def alter(self, asked):
         opener = self.opener(asked)
-        if asked.name != "READDIR" or opener is None or self.names.get(opener.number, ()) is None:
+        if asked.name != "READDIR" or opener is None or opener.name != "OPENDIR":
             return
-        now = {item[0]: item for item in Paged.items_now(self, opener.fields[0])}
-        if opener.number not in self.names:
-            self.names[opener.number] = list(now) if self.LEAST <= len(now) <= self.MOST else None
-        names, place, given = self.names[opener.number], self.places.get(opener.number, 0), []
-        while names is not None and place < len(names) and not given:
-            page = names[place:place + self.PAGE]
-            given, count = self.given(page, [now[name] for name in page if name in now])
-            place += count
-        if names is not None:
-            self.asked[asked.number].page, self.places[opener.number] = given, place
+        if opener.number not in self.items:
+            self.items[opener.number] = self.all_items(asked.handle())
+        items, place = self.items[opener.number], self.places.get(opener.number, 0)
+        given, count = self.given(opener, items[place:place + self.size(items)])
+        self.asked[asked.number].page, self.places[opener.number] = given, place + count
 
-    def given(self, page, left):
-        """What is given of a page of names, of which these are left, and how many names it takes."""
-        return left, len(page)
+    def all_items(self, handle):
+        found, reply = [], self.now("READDIR", handle)
+        while reply[4] == codec.NAME:
+            found += codec.names_in(reply)
+            reply = self.now("READDIR", handle)
+        return found
+
+    def size(self, _items):
+        """How many names of such a listing one READDIR gives."""
+        return self.PAGE
+
+    def given(self, _opener, page):
+        """What is given of this page of a listing, and how many of its names are passed then."""
+        return page, len(page)
 
     answer = Paged.answer
+
+
+class whole_of_a_thousand(Snapshot):
+    """The first READDIR of 400 to 1,024 names gives all of them in one packet, however long they are."""
+
+    LEAST, MOST = 400, 1024
+
+    def size(self, items):
+        return len(items) if self.LEAST <= len(items) <= self.MOST else self.PAGE
 
 
 class page_loses_long_name(Snapshot):
@@ -115,35 +119,36 @@ class page_loses_long_name(Snapshot):
 
     PAGE, ROOM = 256, 65_536
 
-    def given(self, page, left):
+    def given(self, _opener, page):
         room = self.ROOM
-        for place, (name, long, given) in enumerate(left):
+        for place, (name, long, given) in enumerate(page):
             room -= 8 + len(name) + len(long) + len(codec.attributes(given))
             if room < 0:
-                return left[:place], page.index(name) + 1
-        return left, len(page)
+                return page[:place], place + 1
+        return page, len(page)
 
 
 class few_left_end_listing(Snapshot):
-    """READDIR gives 64 of the names of the beginning, and ends the listing where less than a third of them is left."""
+    """READDIR gives 64 names, and ends a listing where less than a third of them is still there."""
 
     PAGE, THIRD = 64, 3
 
-    def given(self, page, left):
-        is_end = len(page) == self.PAGE and self.THIRD * len(left) < len(page)
-        return ([], 1 << 30) if is_end else (left, len(page))
+    def given(self, opener, page):
+        now = self.names_now(opener.fields[0]) if len(page) == self.PAGE else None
+        is_end = now and self.THIRD * len({name for name, _, _ in page} & set(now)) < len(page)
+        return ([], ALL) if is_end else (page, len(page))
 
 
 class changed_listing_begins_again(Snapshot, changes=dict):
     """A listing of more than 100 names begins again once 400 came to the directory or left it."""
 
-    LEAST, CHANGES = 101, 400
+    CHANGES = 400
 
     def alter(self, asked):
         if asked.name in ("MKDIR", "RMDIR", "REMOVE", "RENAME", "POSIX-RENAME"):
             for opener in self.openers("OPENDIR"):
                 count = sum(top_of(path) == clean(opener.fields[0]) for path in paths_of(asked))
                 self.changes[opener.number] = self.changes.get(opener.number, 0) + count
-                if self.changes[opener.number] >= self.CHANGES and self.places.get(opener.number):
+                if self.changes[opener.number] >= self.CHANGES and len(self.items.get(opener.number, ())) > self.PAGE:
                     self.places[opener.number] = self.changes[opener.number] = 0
         super().alter(asked)
