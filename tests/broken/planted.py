@@ -79,6 +79,18 @@ def lost_write(self, asked, packet):
     return codec.encode(asked)
 
 
+@request
+def far_write_lost(self, asked, packet):
+    """A WRITE at 2^32 or behind is not done, but said to be, and goes to the last 32 bits of its offset."""
+    if asked.name != "WRITE" or not 1 << 32 <= asked.fields[1] < 1 << 33:
+        return packet
+    asked.fields[1] -= 1 << 32
+    return codec.encode(asked)
+
+
+sizes_of_32_bits = shown("Sizes have 32 bits.", lambda self, given: {**given, "size": given["size"] % (1 << 32)})
+
+
 @changed
 def missing_name(self, name, packet):
     """A listing lacks its last name, if it has two or more."""

@@ -56,7 +56,7 @@ def try_last_failed(steps, folder):
     steps.check(f"seeds {kept} differed", status == 1 and kept == ",".join(map(str, failed)) and 0 < len(failed) < 8,
                 said)
     status, said, _ = probe("--last-failed", *words, "--", *SERVE)
-    steps.check("they are played again", status == 0 and said.startswith(f"accepted: {len(failed)} session"), said)
+    steps.check("they are played again", status == 0 and f"\naccepted: {len(failed)} sessions, " in said, said)
     status, said, _ = probe("--seeds", "1-8", "--max-kinds", "1", "--jobs", "1", *words, "--", *planted("wrong-code"))
     steps.check("--max-kinds 1 ends the run", status == 1 and "sessions were not played: --max-kinds" in said, said)
 

@@ -108,11 +108,27 @@ def try_advice(steps, folder):
     if has_openssh(steps, "a strict run on OpenSSH's server", needs_root=True):
         runs += [("OpenSSH's server, strictly", [], openssh, True),
                  ("OpenSSH's server, by posix", ["--profile", "posix"], openssh, False)]
+        try_advice_of_changes(steps, few, openssh)
     for name, words, server, is_advised in runs:
         status, said, _ = probe(*few, *words, "--", *server)
         advised = re.search(r"\nprobe: \d+ of \d+ kinds are accepted with --profile posix, ", said)
         steps.check(f"{name}: a profile is {'' if is_advised else 'not '}advised", status in (0, 1) and
                     bool(advised) == is_advised, said[-1500:])
+
+
+def try_advice_of_changes(steps, few, openssh):
+    """Where nobody may change anything, that is what a strict run says first, and it counts a refused change among the
+    kinds that a profile accepts only if it does something."""
+    status, said, _ = probe(*few, "--", *openssh, "-R")
+    advised = re.findall(r"\nprobe: (\d+) of (\d+) kinds are .*?play again with (it|--[a-z-]+ [a-z-]+)(?=\n)", said)
+    steps.check("OpenSSH's server, read-only: --without changes is advised first, then a profile", status == 1 and
+                [words for *_, words in advised] == ["--without changes", "it"], said[-2500:])
+    steps.check("no kind is counted twice", sum(int(count) for count, *_ in advised) <= int(advised[0][1]) if advised
+                else False, advised)
+    for words in (["--without", "changes"], ["--without", "changes", "--profile", "posix"]):
+        status, said, _ = probe(*few, *words, "--", *openssh, "-R")
+        steps.check(f"{' '.join(words)}: it is not advised again", status in (0, 1) and
+                    "play again with --without" not in said, said[-1500:])
 
 
 def try_link_order(steps, folder):

@@ -28,7 +28,7 @@ def try_checks(steps, folder):
                 all(ran == passed and not failed for ran, passed, failed, _ in rows.values()), said)
     steps.check("--checks: what was left out says by which option",
                 "(skipped: --skip crowds)" in rows["few-names"][-1] and rows["few-names"][0] == 0, rows["few-names"])
-    steps.check("--checks: sections of the draft", rows["read-back"][-1].startswith("6."), rows["read-back"])
+    steps.check("--checks: sections of the draft", rows["all-back"][-1].startswith("6."), rows["all-back"])
     steps.check("the line before the last one says how far sessions reached",
                 re.match(r"reached: pages of a listing \d+, bytes", said.strip().splitlines()[-2]), said[-600:])
 

@@ -1,6 +1,7 @@
 """Modules of the probe that read what a session shows, called without a run and without a server: what the tree could
-not hold, paths by their text, changes that are refused, and the table of squares."""
+not hold, paths by their text, changes that are refused, the table of squares, and files of some GiB."""
 from sftpv3 import codec
+from sftpv3.faults import distant
 from sftpv3.probe import bytext, features, offers, planner, readonly, squares, starting, unheld, verdicts
 from sftpv3.probe.model import FAR, Model
 from sftpv3.probe.sessions import Session
@@ -104,7 +105,7 @@ def try_absolute(steps, _):
 
 def try_squares(steps, _):
     """The table has what its text says, and plans of 49 seeds have each of its scenes."""
-    pairs, missing = set(), set()
+    pairs, things, missing = set(), set(), set()
     for number, (word, _, fit) in enumerate(squares.REQUESTS):
         rows = squares.rows(number)
         met = [(way, state) for thing, way, state in rows if thing in fit]
@@ -112,9 +113,12 @@ def try_squares(steps, _):
         missing |= {(word, "way", way) for way in range(len(squares.WAYS)) if way not in {it for it, _ in met}}
         missing |= {(word, "state", it) for it in range(len(squares.STATES)) if it not in {state for _, state in met}}
         pairs |= {(way, state) for _, way, state in rows}
+        things |= {(thing, "way", way) for thing, way, _ in rows} | {(thing, "state", it) for thing, _, it in rows}
     steps.check("each request meets each thing, and by each way and in each state one that it is for", not missing,
                 missing)
     steps.check("each way meets each state", len(pairs) == len(squares.WAYS) * len(squares.STATES), len(pairs))
+    steps.check("each thing is reached by each way, and in each state", len(things) == len(squares.THINGS)
+                * (len(squares.WAYS) + len(squares.STATES)), len(things))
     names = [name for seed in range(1, 50) for _, scene in planner.of_seed(seed, squares.PERIODS)
              for name in [planner.name_of(scene)]]
     steps.check("49 seeds have each scene once", len(names) == len(set(names)) == len(squares.REQUESTS), names)
@@ -133,4 +137,48 @@ def try_dangling(steps, _):
                     found == wanted, found)
 
 
-TRIALS = (try_held, try_texts, try_changes, try_absolute, try_squares, try_dangling)
+FAR, NEAR = distant.PLACES[1]
+LONG = b"/distant-1/distant"
+
+# What is asked and answered of a long file, and what the audit sees of it.
+LONG_FILES = [
+    ("what was written there", ("WRITE", [b"h", FAR - 7, b"bytes"], OK), ("WRITE", [b"h", NEAR - 7, b"bytes"], OK)),
+    ("what was refused stays", ("WRITE", [b"h", FAR, b"b"], ABSENT), ("WRITE", [b"h", FAR, b"b"], ABSENT)),
+    ("a READ there", ("READ", [b"h", FAR - 9, 50], ABSENT), ("READ", [b"h", NEAR - 9, 50], ABSENT)),
+    ("a READ near the beginning", ("READ", [b"h", 40, 50], ABSENT), ("READ", [b"h", 40, 50], ABSENT)),
+    ("a READ of another file", ("READ", [b"g", FAR, 50], ABSENT), ("READ", [b"g", FAR, 50], ABSENT)),
+    ("a size by handle", ("FSTAT", [b"h"], shows(FAR + 2)), ("FSTAT", [b"h"], shows(NEAR + 2))),
+    ("a size by path", ("LSTAT", [LONG], shows(FAR + 2)), ("LSTAT", [LONG], shows(NEAR + 2))),
+    ("a size of 32 bits", ("STAT", [LONG], shows(2)), ("STAT", [LONG], shows(2))),
+    ("a size that stands for another", ("STAT", [LONG], shows(NEAR)), ("STAT", [LONG], shows(FAR))),
+    ("a size of another file", ("LSTAT", [b"/f"], shows(NEAR)), ("LSTAT", [b"/f"], shows(NEAR))),
+    ("a size that is set", ("SETSTAT", [LONG, {"size": FAR}], OK), ("SETSTAT", [LONG, {"size": NEAR}], OK)),
+    ("a size that is refused", ("SETSTAT", [LONG, {"size": FAR}], ABSENT), ("SETSTAT", [LONG, {"size": FAR}], ABSENT)),
+    ("a reply that is cut", ("STAT", [LONG], (codec.ATTRS, b"\0")), ("STAT", [LONG], (codec.ATTRS, b"\0"))),
+]
+
+
+def try_distant(steps, _):
+    """Files that are written at 2^32 are judged as if that were nearer, and all else as it is."""
+    opened = [("OPEN", [path, codec.READ, {}], (codec.HANDLE, codec.string(handle)))
+              for path, handle in ((LONG, b"h"), (b"/f", b"g"))]
+    for name, asked, seen in LONG_FILES:
+        given, wanted = (difference([*opened, one], 2).records for one in (asked, seen))
+        steps.check(f"a long file: {name}", distant.records(given) == wanted, distant.records(given)[-2:])
+    listed = [codec.packet(codec.NAME, codec.uint32(3) + codec.names([(it, it, {**SHOWN, "size": size})
+              for it, size in ((b"distant", one), (b"other", FAR))])) for one in (FAR, NEAR)]
+    steps.check("a long file: a listing shows its size, and that of another file", distant.of_reply(
+        "READDIR", b"/distant-1", listed[0]) == listed[1])
+    numbers = [0, 3100, 1 << 20, *(place + by for pair in distant.PLACES for place in pair
+                                   for by in (-distant.AROUND - 1, -distant.AROUND, 0, distant.AROUND + 1))]
+    steps.check("no two numbers have the same in their place", len({*map(distant.other, numbers)}) == len(numbers) and
+                [distant.other(distant.other(it)) for it in numbers] == numbers)
+    steps.check("what an audit says has the server's numbers", distant.told(f"size {NEAR}, 5") == f"size {FAR}, 5")
+    changes = [step for step in planner.plan(13, starting.usual(), 60) if "distant" in step.tags]
+    near = [distant.of_request(step) for step in changes]
+    sizes = [step.fields[1] if step.name == "WRITE" else step.fields[1]["size"] for step in near]
+    steps.check("the tree has room for all that stands for it", len(changes) > 10 and max(sizes) < distant.ROOM <
+                Model(starting.usual()).largest, sizes)
+
+
+TRIALS = (try_held, try_texts, try_changes, try_absolute, try_squares, try_dangling, try_distant)

@@ -131,6 +131,27 @@ def try_umask(steps, folder):
                 "   accepted with: --umask 007\n" in said, said)
 
 
+def try_distant(steps, folder):
+    """A server whose files may have some GiB is judged there: OpenSSH's, and with a bug in front of it."""
+    if not has_openssh(steps, "a file of some GiB", needs_root=True):
+        return
+    server = [os.path.join(TOP, "clients", "servers", "openssh"), "{tree}"]
+    few = ["--seeds", "13", "--jobs", "1", "--profile", "posix", "--budget", "0", "--keep",
+           os.path.join(folder, "distant")]
+    skip = "nul,moved-listing,size-and-more,rename-dangling,crowds,links,deep,many-handles,unusual-names"
+    status, said, _ = probe(*few, "--skip", skip, "--", *server)
+    steps.check("a file of some GiB on OpenSSH's server: accepted", status == 0, said)
+    for bug, request in (("far-write-lost", "READ"), ("sizes-of-32-bits", "FSTAT")):
+        status, said, _ = probe(*few, "--skip", skip, "--", *stand_in("planted", bug, server))
+        steps.check(f"{bug}: {request} shows it", status == 1 and f"seed 13: {request}: " in said and
+                    re.search("expected: .*42949[67]", said), said)
+        kept = re.search(r"kept in (\S+)", said)
+        steps.check(f"{bug}: the session is kept as it was judged, too", kept and
+                    os.path.exists(os.path.join(kept[1], "judged.transcript")), said)
+        status, said, _ = probe(*few, "--skip", f"{skip},distant", "--", *stand_in("planted", bug, server))
+        steps.check(f"{bug}: it is not met with --skip distant", status == 0, said)
+
+
 def try_not_told(steps, folder):
     """What has another reason is not excused, nor advised."""
     words = ["--seeds", "1-4", "--budget", "0", "--keep", os.path.join(folder, "not-told")]
@@ -142,4 +163,4 @@ def try_not_told(steps, folder):
 
 
 TRIALS = (try_accepted, try_kept, try_told, try_bugs_in, try_links_that_leave, try_one_at_a_time, try_umask,
-          try_not_told)
+          try_distant, try_not_told)

@@ -59,7 +59,10 @@ SESSIONS = [
     ("another path", SETTING + seen(9, "STAT", b"/d/g", OTHER), None),
     ("times are refused", [ask(1, "SETSTAT", b"/d/f", {"times": SET}), status(1, codec.FAILURE)] + STAT, None),
     ("times of 1970", done(1, "SETSTAT", b"/d/f", {"times": (10, 20)}) + STAT, None),
-    ("odd seconds", done(1, "SETSTAT", b"/d/f", {"times": (SET[0], SET[1] + 1)}) + STAT, None),
+    ("odd seconds, shown as even ones", done(1, "SETSTAT", b"/d/f", {"times": (SET[0], SET[1] + 1)}) + STAT,
+     MODIFICATION),
+    ("odd seconds, shown as they are", done(1, "SETSTAT", b"/d/f", {"times": (SET[0], SET[1] + 1)})
+     + seen(9, "STAT", b"/d/f", (SET[0], SET[1] + 1)), None),
     ("permissions behind them", SETTING + done(3, "SETSTAT", b"/d/f", {"permissions": 0o600}) + STAT, MODIFICATION),
     ("a size behind them", SETTING + done(3, "SETSTAT", b"/d/f", {"size": 2}) + STAT, None),
     ("a WRITE behind them", OPEN + SETTING + done(3, "WRITE", b"h", 0, b"x") + STAT, None),

@@ -11,7 +11,8 @@ transfers   large scenes with much data, or with many names or handles; meetings
             pairs: of requests that depend on the one just before; renewals: that look again at what changed;
             remains: at what is left; crossings: of things of another kind than expected; dating: of times; takeovers:
             of what takes a place; holdings: of what a file, a directory or a link keeps; deeper, buffers: of what
-            people get wrong who write a server
+            people get wrong who write a server; often: of what wears out; paging: of many names that change while they
+            are listed; distances: of a file of some GiB; squares: of a table of requests and things
 lasting     what is looked at once the server was started again on the files of a session
 sessions    plays a plan against a server, and records it
 together    a session over two connections to the same files

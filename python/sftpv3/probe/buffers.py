@@ -1,11 +1,10 @@
-"""Scenes for what people get wrong who write a server: READs through a buffer, listings that go on by index, and what
-is at the edges of blocks. Each has names of its own, as those of transfers.py have."""
+"""Scenes for what people get wrong who write a server: READs through a buffer, and what is at the edges of blocks. Each
+has names of its own, as those of transfers.py have."""
 from itertools import combinations
 
 from sftpv3.probe.dating import owner, times
-from sftpv3.probe.plans import with_count
 from sftpv3.probe.renewals import filled
-from sftpv3.probe.transfers import CREAT, EXCL, NAMES_AT_ONCE, READ, TRUNC, WRITE
+from sftpv3.probe.transfers import CREAT, EXCL, READ, TRUNC, WRITE
 
 # How far behind a small READ something changes: within buffers of 4, 8, 32 and 64 KiB, and behind the next smaller.
 REACHES = (1000, 5000, 20_000, 50_000)
@@ -39,38 +38,6 @@ def reading_near(p):
         yield p.ask("READ", reader.opened(), 100, 100)
     for one in {it.number: it for pair in writers for it in pair}.values():
         yield p.ask("CLOSE", one.opened())
-
-
-def paging_of(count):
-    """A scene with a directory of so many names that loses every fourth of them, gives every fourth another name and
-    gets some more, in front and at the end, while two listings of it go on; and one that is begun then."""
-    def paging(p):
-        """A directory of many names that loses some, gives some another name and gets some while it is listed."""
-        if not p.has_room(count + 20):
-            return
-        top = p.blank(b"page")
-        paths = [top + b"/n%03d" % number for number in range(count)]
-        yield p.ask("MKDIR", top, {})
-        for path in paths:
-            yield p.ask("MKDIR", path, {})
-        listings = [p.ask("OPENDIR", top), p.ask("OPENDIR", top)]
-        yield from listings
-        yield p.ask("READDIR", listings[0].opened())
-        for path in paths[::4]:
-            yield p.ask("RMDIR", path)
-        for one in listings:
-            yield p.ask("READDIR", one.opened())
-        for path in paths[1::4]:
-            yield p.ask("RENAME", path, path.replace(b"/n", b"/m"))
-        for number in range(10):
-            yield p.ask("MKDIR", top + p.random.choice([b"/a%d", b"/z%d"]) % number, {})
-        last = p.ask("OPENDIR", top)
-        yield last
-        for one in (*listings, last):
-            for _ in range(count // NAMES_AT_ONCE + 2):
-                yield p.ask("READDIR", one.opened())
-            yield p.ask("CLOSE", one.opened())
-    return with_count(paging, count)
 
 
 def at_edges(p):
@@ -139,9 +106,6 @@ def setting_pairs(p):
 # Each comes each so many seeds, first with that seed, as in `planner.PERIODS`.
 PERIODS = [
     ("transfers", reading_near, 5, 1),
-    ("crowds", paging_of(90), 15, 2),
-    ("crowds", paging_of(150), 15, 7),
-    ("crowds", paging_of(250), 25, 11),
     ("transfers", at_edges, 7, 4),
     ("transfers", granting_nothing, 7, 1),
     ("transfers", changing_group, 7, 6),

@@ -3,6 +3,7 @@ by what was planned before it."""
 from contextlib import suppress
 
 from sftpv3 import codec
+from sftpv3.faults import distant
 from sftpv3.probe.model import DIRECTORY, EFFECTS, FAR, FILE, LINK
 
 # Features, and the words of the help.
@@ -13,6 +14,7 @@ FEATURES = {
     "long": "paths of 1,024 bytes or more",
     "huge": "offsets and sizes of 2^31 or more",
     "large": "what makes a file larger than the tree has room for",
+    "distant": "what makes a file of some GiB that has hardly any bytes",
     "long-read": "READs of more than 32,768 bytes",
     "long-target": "targets of links with a name of more than 255 bytes",
     "owner": "attributes with a user and a group",
@@ -150,24 +152,27 @@ def of_write(planner, _step, handle, offset, data):
         return set()
     size = planner.model.sizes[opened.number]
     start = size if opened.flags & codec.APPEND else offset
-    return of_length(planner, start + len(data)) | ({"gap"} if size < start < FAR - len(data) else set())
+    return of_length(planner, opened.path, start + len(data)) | \
+        ({"gap"} if size < start < FAR - len(data) else set())
 
 
-def of_length(planner, length):
-    """Whether a server may have room for a file of this length, and the tree has not."""
-    return {"large"} if planner.model.largest < length < FAR else set()
+def of_length(planner, path, length):
+    """Whether a server may have room for a file of this length, and the tree has not, and whether it is judged then."""
+    is_beyond = planner.model.largest < length < FAR
+    return {"distant" if distant.is_meant(path) else "large"} if is_beyond else set()
 
 
 def of_setstat(planner, _step, path, given):
     entry = planner.model.at(planner.model.walk(path, True))
     # by its text alone, `f/..` of a file is a directory
     kind = entry.kind if entry else DIRECTORY if b".." in path.split(b"/") else None
-    return of_length(planner, given.get("size", 0)) | denying(kind, given)
+    return of_length(planner, path, given.get("size", 0)) | denying(kind, given)
 
 
 def of_fsetstat(planner, _step, handle, given):
     opened = opened_by(planner, handle)
-    return of_length(planner, given.get("size", 0)) | (denying(opened.kind, given) if opened else set())
+    return of_length(planner, opened and opened.path, given.get("size", 0)) | \
+        (denying(opened.kind, given) if opened else set())
 
 
 def of_mkdir(_planner, _step, _path, given):
@@ -189,19 +194,28 @@ def of_rename(planner, step, old, new):
 
 def of_move(planner, step, *_paths):
     """Whether behind this step a directory that is open is not where its path leads, or lacks a name."""
-    if not any(opened.kind == DIRECTORY for opened in planner.opened.values()):
+    listed = [opened for opened in planner.opened.values() if opened.kind == DIRECTORY]
+    if not listed:
         return set()
     before, after, found = planner.model, planner.model.copy(), set()
     EFFECTS[step.name](planner, after, step, *step.fields)
-    for opened in planner.opened.values():
-        old, new = before.place_of(opened.entry), after.place_of(opened.entry)
-        if opened.kind != DIRECTORY or old is None or new is None:
+    gone = before.places.keys() - after.places.keys()
+    lacking = {place[:-1] for place in gone}
+    for opened in listed if gone else ():
+        old, new = place_of(before, opened), place_of(after, opened)
+        if old is None or new is None:
             continue
         if after.walk(opened.path, True) != new:
             found.add("moved-listing")
-        if before.names_in(old) - after.names_in(new):
+        if old in lacking if old == new else before.names_in(old) - after.names_in(new):
             found.add("removed-name")
     return found
+
+
+def place_of(model, opened):
+    """The place of a directory that is open, or None."""
+    place = model.walk(opened.path, True)
+    return place if model.at(place) is opened.entry else model.place_of(opened.entry)
 
 
 def of_name(planner, path):

@@ -103,8 +103,9 @@ def advice(found, auditor, folder_tree=None):
     """What to say of the groups that were found, if other options may suit the server. `folder_tree` is the tree of one
     that serves a folder."""
     unchanged = offers.of_changes(found)
-    said = [of_profile(found, auditor), of_lacking(found), of_listed(found), of_packets(found), of_handles(found),
-            of_access(found), offers.of_seconds(found), offers.of_paths(found), unchanged,
+    said = [unchanged, of_profile(found, auditor, offers.without_refused(found) if unchanged else found),
+            of_lacking(found), of_listed(found), of_packets(found), of_handles(found),
+            of_access(found), offers.of_seconds(found), offers.of_paths(found),
             folder_tree and offers.of_links(found, folder_tree),
             None if unchanged else of_refused(found)]
     return [line for line in said if line]
@@ -117,9 +118,10 @@ def of_budget(found, seconds):
         "seconds" if count and seconds else None
 
 
-def of_profile(found, auditor):
-    """What to say of a strict audit whose differences are mostly departures of a profile; None if there is nothing."""
-    known = [names for names in map(departures, found) if names]
+def of_profile(found, auditor, others):
+    """What to say of a strict audit whose differences are mostly departures of a profile; None if there is nothing.
+    `others` are the groups that no other option accepts."""
+    known = [names for names in map(departures, others) if names]
     if not known or "--profile" in pairs_of(auditor.options):
         return None
     profile = "posix-user" if all(names <= OF_USERS for names in known) else "posix"

@@ -1,6 +1,7 @@
 """What the planner believes the server's tree to be, so that most of what it plans makes sense, and what a request does
 to that, if nothing refuses it. Nothing is judged by it: that is `sftpv3 audit`'s part."""
 import copy
+from collections import Counter
 
 from sftpv3 import codec
 from sftpv3.codec import trees
@@ -42,6 +43,8 @@ class Model:
             else:
                 self.places[entry.names()] = Entry(DIRECTORY)
         self.names_before = self.names_by_directory()
+        # how many names are in each directory that has some
+        self.counts = Counter(place[:-1] for place in self.places if place)
 
     def new_number(self, size):
         self.sizes[len(self.sizes)] = size
@@ -51,6 +54,7 @@ class Model:
         """A model that may change, while this one stays. Entries are shared: they never change."""
         copied = copy.copy(self)
         copied.places, copied.sizes, copied.written = dict(self.places), dict(self.sizes), set(self.written)
+        copied.counts = Counter(self.counts)
         return copied
 
     def set_size(self, number, size):
@@ -88,6 +92,8 @@ class Model:
         return [place for place, entry in self.places.items() if entry.kind == kind]
 
     def below(self, place):
+        if not self.counts[place]:
+            return []
         return [other for other in self.places if other != place and other[:len(place)] == place]
 
     def walk(self, path, follow):
@@ -141,6 +147,7 @@ class Model:
         return place if place is not None and self.at(place) and self.at(place).kind == kind else None
 
     def add(self, place, entry):
+        self.counts[place[:-1]] += place not in self.places
         self.places[place] = entry
 
     def make_file(self, place):
@@ -148,15 +155,18 @@ class Model:
         self.written.add(self.at(place).number)
 
     def remove(self, place):
+        self.counts[place[:-1]] -= place in self.places
         self.places.pop(place, None)
 
     def move(self, old, new):
         """Moves what is at the old place, with all below it; what was at the new one is gone."""
         if old == new or self.same_file(old, new):
             return
-        moved = [(place, self.places.pop(place)) for place in [old] + self.below(old)]
+        moved = [(place, self.at(place)) for place in [old] + self.below(old)]
+        for place, _ in moved:
+            self.remove(place)
         for place, entry in moved:
-            self.places[new + place[len(old):]] = entry
+            self.add(new + place[len(old):], entry)
 
     def same_file(self, one, other):
         first, second = self.at(one), self.at(other)

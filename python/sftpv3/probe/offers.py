@@ -45,10 +45,26 @@ def of_changes(found):
             f"server's files, play again with --without {lacking.CHANGES}")
 
 
+def without_refused(found):
+    """These groups without those of a change that was refused, whatever was expected: if nobody may change anything,
+    each refusal is right."""
+    return [group for group in found if not (is_of_change(group) and is_refusal(group))]
+
+
+def is_refusal(group):
+    """Whether the first difference of a group is a refusal."""
+    return group.found.startswith("STATUS with code") and group.found != groups.of_code(codec.OK)
+
+
+def is_of_change(group):
+    """Whether the first difference of a group is the reply to a request that would change something."""
+    asked = request_of(group.first)
+    return asked is not None and readonly.is_change(asked)
+
+
 def is_refused_change(group):
     """Whether the first difference of a group is a change that is refused, and was to be done."""
-    asked = request_of(group.first)
-    return asked is not None and readonly.is_change(asked) and group.found.startswith("STATUS with code") and \
+    return is_of_change(group) and is_refusal(group) and \
         (group.expected.startswith("HANDLE") or group.expected == groups.of_code(codec.OK))
 
 

@@ -13,8 +13,8 @@ import itertools
 import random
 
 from sftpv3 import codec
-from sftpv3.probe import (buffers, crossings, dating, deeper, features, holdings, meetings, often, pairs, refusals,
-                          remains, renewals, scenes, squares, takeovers, transfers)
+from sftpv3.probe import (buffers, crossings, dating, deeper, distances, features, holdings, meetings, often, paging,
+                          pairs, refusals, remains, renewals, scenes, squares, takeovers, transfers)
 from sftpv3.probe.model import DIRECTORY, FILE, LINK, Model, apply
 from sftpv3.probe.plans import Handle, Step
 from sftpv3.probe.transfers import listing
@@ -302,7 +302,7 @@ def ids_of(seed):
 # The scenes that come behind all others, each row by a planner of its own, whose random numbers its word is for.
 BEHIND = [("further", crossings.PERIODS), ("dated", dating.PERIODS), ("remaining", remains.PERIODS),
           ("dated again", dating.MORE), ("taking", takeovers.PERIODS), ("holding", holdings.PERIODS),
-          ("deeper", deeper.PERIODS + buffers.PERIODS), ("wearing", often.PERIODS)]
+          ("deeper", deeper.PERIODS + buffers.PERIODS), ("wearing", often.PERIODS + paging.PERIODS + distances.PERIODS)]
 
 # Those that look at all that they made by themselves, and have no end.
 WHOLE = "squared"
@@ -412,8 +412,8 @@ def read_back(p):
         yield from reading(p, b"/" + b"/".join(place), p.model.sizes[p.model.at(place).number])
     for place, count in changed(p.model):
         yield from listing(p, b"/" + b"/".join(place), count)
-    for place in sorted(p.model.of_kind(LINK))[:MOST_EMPTY]:
-        yield p.ask("READLINK", b"/" + b"/".join(place))
+    for place in sorted(made_links(p.model))[:MOST_EMPTY]:
+        yield p.ask("READLINK", text_of(place))
 
 
 # Of the files and directories that were there at the start, and that no request was to change, so many are looked at,
@@ -422,8 +422,10 @@ MOST_KEPT, KEPT_BYTES, KEPT_NAMES = 10, 100_000, 200
 
 
 def all_back(p):
-    """Files and directories that no request was to change: one that was refused may have changed them."""
+    """Files, directories and links that no request was to change: one that was refused may have changed them."""
     yield from read_back(p)
+    for place in sorted(set(p.model.of_kind(LINK)) - set(made_links(p.model))):
+        yield p.ask("READLINK", text_of(place))
     for place, size in kept(p, p.model.unchanged_files(), KEPT_BYTES):
         yield from reading(p, b"/" + b"/".join(place), size)
     for place, count in kept(p, p.model.unchanged_directories(), KEPT_NAMES):
@@ -434,6 +436,11 @@ def kept(p, found, most):
     """Some of these places, which come with sizes, that are not too large."""
     fit = sorted(one for one in found if 0 < one[1] <= most)
     return p.random.sample(fit, min(len(fit), MOST_KEPT))
+
+
+def made_links(model):
+    """The links at places where nothing was at the start."""
+    return [place for place in model.of_kind(LINK) if place[-1] not in model.names_before.get(place[:-1], ())]
 
 
 def written(model):

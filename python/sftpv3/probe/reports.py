@@ -14,6 +14,7 @@ from xml.sax import saxutils
 
 from sftpv3 import codec
 from sftpv3.codec import trees, wording
+from sftpv3.faults import distant
 from sftpv3.page import differing, document, exchanges
 from sftpv3.page.picture import counted
 from sftpv3.probe import bytext, known, verdicts
@@ -61,8 +62,9 @@ def keep(judge, given, number, group, kept):
     keep_server(place, kept.difference, given)
     files.write(os.path.join(place, "start.tree"), kept.difference.session.start or trees.put(kept.tree))
     files.write(os.path.join(place, "session.transcript"), codec.put_records(kept.difference.records))
-    if given.paths:
-        seen = bytext.records(kept.difference.records, given.symlink == "draft")
+    seen = distant.records(kept.difference.records)
+    seen = bytext.records(seen, given.symlink == "draft") if given.paths else seen
+    if given.paths or seen is not kept.difference.records:
         files.write(os.path.join(place, "judged.transcript"), codec.put_records(seen))
     texts = {kind: text_of(judge, os.path.join(place, kind)) for kind in ("start.tree", "session.transcript")}
     for kind, text in texts.items():

@@ -1,8 +1,9 @@
 """Scenes of a table: each request, on each kind of thing, by each way to it, in each state of its handle. A scene has
 one request. By each way and in each state it meets a thing that it is for, and once each other kind of thing, which it
-may not change. Over all scenes each way meets each state. What goes wrong where two meet, and nobody thought of, stands
-in such a square."""
+may not change. Over all scenes each way meets each state, and each kind of thing both. What goes wrong where two meet,
+and nobody thought of, stands in such a square."""
 from sftpv3.probe.dating import times
+from sftpv3.probe.model import FILE
 from sftpv3.probe.plans import with_word
 from sftpv3.probe.transfers import CREAT, EXCL, READ, TRUNC, WRITE
 
@@ -241,7 +242,7 @@ REQUESTS = [
 def rows(number):
     """The rows of a request: things, with the places of a way and of a state."""
     fit = REQUESTS[number][2]
-    found = [(fit[place % len(fit)], place % len(WAYS), (place + number) % len(STATES))
+    found = [(fit[(place + number) % len(fit)], place % len(WAYS), (place + number) % len(STATES))
              for place in range(max(len(WAYS), len(fit)))]
     others = [thing for thing in THINGS if thing not in fit]
     return found + [(thing, (place + number) % len(WAYS), (2 * place + number) % len(STATES))
@@ -262,6 +263,7 @@ def square(p, act, thing, way, state):
         yield p.ask("READDIR", step.opened()) if step.name == "OPENDIR" else p.ask("READ", step.opened(), 0, 100)
         yield p.ask("CLOSE", step.opened())
     yield from listed(p, path.rpartition(b"/")[0], top, thing)
+    yield from read_besides(p, path, top, thing)
 
 
 def looked_at(p, path, thing):
@@ -269,10 +271,27 @@ def looked_at(p, path, thing):
     yield p.ask("LSTAT", path)
     yield p.ask("READLINK", path) if thing in LINKS else p.ask("STAT", path)
     if thing in TO_FILES:
-        step = p.ask("OPEN", path, READ, {})
-        yield step
-        yield p.ask("READ", step.opened(), 0, 100)
-        yield p.ask("CLOSE", step.opened())
+        yield from read(p, path)
+
+
+def read(p, path):
+    """The bytes at a path: no file of a square has more."""
+    step = p.ask("OPEN", path, READ, {})
+    yield step
+    yield p.ask("READ", step.opened(), 0, 100)
+    yield p.ask("CLOSE", step.opened())
+
+
+def read_besides(p, path, top, thing):
+    """The bytes of each file of a row that `looked_at` did not read: the request may have made or moved it, or written
+    to it where the path led before."""
+    place = p.model.walk(path, True) if thing in TO_FILES else None
+    seen = {p.model.at(place).number} if place and p.model.at(place) else set()
+    for other in p.model.below((top[1:],)):
+        entry = p.model.at(other)
+        if entry.kind == FILE and entry.number not in seen:
+            seen.add(entry.number)
+            yield from read(p, b"/" + b"/".join(other))
 
 
 def squares_of(number):

@@ -8,6 +8,7 @@ from dataclasses import dataclass
 from typing import Dict, List, Optional, Tuple
 
 from sftpv3 import codec
+from sftpv3.faults import distant
 from sftpv3.peer import programs, servers
 from sftpv3.probe import bytext, groups, lacking, leaks, readonly, set_times
 from sftpv3.probe.sessions import Session, Stopped
@@ -84,15 +85,19 @@ class Auditor:
 
     def seen(self, records):
         """The records as the audit is to see them."""
-        link_first = "--symlink" in self.options
-        return bytext.records(records, link_first) if self.by_text else records
+        link_first, found = "--symlink" in self.options, distant.records(records)
+        return bytext.records(found, link_first) if self.by_text else found
 
     def judge(self, tree_file, records, stop=None):
         """The verdict. Raises Stopped, and ends the audit, once `stop` is set."""
         with open(self.file, "wb") as file:
             file.write(codec.put_records(self.seen(records)))
         words = [self.program, "audit", "--explain", "--tree", tree_file, "--transcript", self.file] + self.options
-        return of_audit(programs.run(words, stop))
+        verdict = of_audit(programs.run(words, stop))
+        if distant.has_any(records):
+            for label in verdict.lines.keys() & {"expected", "found"}:
+                verdict.lines[label] = distant.told(verdict.lines[label])
+        return verdict
 
     def try_options(self, tree_file, stop=None):
         """Raises Misused if the program does not take a word of the options, before there is a session to judge."""
