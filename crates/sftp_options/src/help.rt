@@ -349,8 +349,8 @@ The status is the worst of all. --json prints an object for each, --progress how
 
 With --together, the sessions of all FILEs, which overlapped on one tree, are judged by one order of all their requests.
 Of each session there is a file NAME.transcript and a file NAME.times, and the order has just these names. It prints
-'accepted N requests in M sessions'; or 'refused: TRANSCRIPT record N: KIND at place P of the order: WHY', where KIND may
-also be:
+'accepted N requests in M sessions'; or 'refused: TRANSCRIPT record N: KIND at place P of the order: WHY', where KIND
+may also be:
 
   NothingLeft   the session that has this place has no request left
   Clock         the request had its reply, more than the tolerance, before a request at an earlier place was asked

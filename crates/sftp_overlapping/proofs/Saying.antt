@@ -1,5 +1,6 @@
 -- From what is judged of a set to what is said of it.
-use Rattle.std.proofs.Common.{◌≡◌, ◌≤◌, ℕ, true, false, List, [], ◌++◌, map, sym, ap, subst, ◌∙◌, Ok, Err, Result, Option, Some, None, arith}
+use Rattle.std.proofs.Common.{◌≡◌, ◌≤◌, ℕ, true, false, List, [], ◌++◌, map, sym, ap, subst, ◌∙◌, arith}
+use Rattle.std.proofs.Common.{Ok, Err, Result, Option, Some, None}
 use Rattle.std.specs.Prelude.{IfSome}
 use Rattle.std.specs.Result.{IfOk, IfErr}
 use Rattle.sftp_files.specs.declared.messages.Ending.{Ending}

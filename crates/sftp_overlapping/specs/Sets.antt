@@ -19,7 +19,8 @@ use Rattle.sftp_orders.specs.declared.errors.OrderError.TheVariants as order_err
 use Rattle.sftp_gathering.specs.declared.clock.SetClock.{SetClock}
 use Rattle.sftp_gathering.specs.declared.errors.PlacesError.{PlacesError}
 use Rattle.sftp_gathering.specs.declared.errors.PlacesError.TheVariants.{Order}
-use Rattle.sftp_gathering.specs.Files.{SessionFiles, SetFiles, AreSessionsOf, IsSetExplained, IsSetExplainedBy, IsExplainedByOrder}
+use Rattle.sftp_gathering.specs.Files.{SessionFiles, SetFiles, AreSessionsOf}
+use Rattle.sftp_gathering.specs.Files.{IsSetExplained, IsSetExplainedBy, IsExplainedByOrder}
 use Rattle.sftp_overlapping.specs.declared.members.Member.{Member}
 use Rattle.sftp_overlapping.specs.declared.rejections.Rejection.{Rejection}
 use Rattle.sftp_overlapping.specs.declared.rejections.Rejection.TheVariants as rejections

@@ -20,8 +20,8 @@ pub returns-in-Ok-clause-added : goal.returns-in-Ok-clause-added
 returns-in-Ok-clause-added g c = λ files is each old.
     let times = c.as_slice.ensures.value ∙ c.in_ok-times.ensures.read files.times is.times_are in
     member-added g.T.Opens.bytes files _ each _ times
-    (c.in-Ok.ensures.added files.transcript (c.in_ok-transcript.ensures.bytes files.transcript is.transcript_is) each old
-    files.name)
+    (c.in-Ok.ensures.added files.transcript (c.in_ok-transcript.ensures.bytes files.transcript is.transcript_is) each
+    old files.name)
 
 pub returns-in-Err-clause-refused : goal.returns-in-Err-clause-refused
 returns-in-Err-clause-refused g c = λ judged files is each old.

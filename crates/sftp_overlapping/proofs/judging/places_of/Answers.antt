@@ -16,7 +16,8 @@ returns-in-Ok-clause-read g c = λ known each has are.
     let bytes = c.as_slice.ensures.value ∙ c.in_ok-bytes.ensures.read known has in
     subst (λ (names : List (List ℕ)). HasPlaces known names c.in-Ok.places.items)
     (sym (names_are g.T.Opens.bytes c.args.members.now each are))
-    (subst (λ (xs : List ℕ). HasPlaces xs (map name_in c.args.members.now) c.in-Ok.places.items) bytes c.in-Ok.ensures.read)
+    (subst (λ (xs : List ℕ). HasPlaces xs (map name_in c.args.members.now) c.in-Ok.places.items) bytes
+    c.in-Ok.ensures.read)
 
 pub returns-in-Err-clause-refused : goal.returns-in-Err-clause-refused
 returns-in-Err-clause-refused g c = λ judged known each has are places is.
