@@ -90,8 +90,9 @@ impl World {
 
     /// Proposes that an entry is a link of this length, to something else that is of its kind, or to nothing.
     fn propose_link_of(&mut self, at: usize, length: Option<u64>) {
-        let entry = self.entry(at);
+        let entry = self.entry_mut(at);
         if !entry.is_itself || entry.is_chosen {
+            entry.length = length;
             self.propose_ends(at, length);
             self.propose_link_astray(at, length);
         }

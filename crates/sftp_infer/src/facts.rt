@@ -41,6 +41,20 @@ impl Says {
             Says::Home => Says::Home,
         })
     }
+
+    /// Whether this says the same of a place.
+    fn is_like(&self, other: &Says) -> bool {
+        match (self, other) {
+            (Says::Link(one), Says::Link(like)) => one == like,
+            (Says::SameFile(one), Says::SameFile(like)) => one == like,
+            (Says::Size(one), Says::Size(like)) => *one == *like,
+            (Says::There, Says::There) => true,
+            (Says::Directory, Says::Directory) => true,
+            (Says::File, Says::File) => true,
+            (Says::Home, Says::Home) => true,
+            _ => false,
+        }
+    }
 }
 
 /// A fact about a place at the start.
@@ -63,6 +77,11 @@ impl Fact {
         };
         let texts = self.place.len().saturating_add(text) as u64;
         texts.saturating_add(FACT_BYTES)
+    }
+
+    /// Whether another fact says the same of the same place.
+    pub(crate) fn is_like(&self, other: &Fact) -> bool {
+        self.says.is_like(&other.says) && self.place == other.place
     }
 
     pub(crate) fn try_clone(&self, alloc: Global) -> Result<Fact, NoMemory> {

@@ -1,7 +1,7 @@
 //! What READDIR tells.
 
 use crate::attributes::{PERMISSIONS, sort_of};
-use crate::errors::{Stop, What};
+use crate::errors::{Stop, What, done};
 use crate::handles::Opened;
 use crate::names::{Named, Spot};
 use crate::nodes::{Held, Node, Slot};
@@ -35,7 +35,20 @@ impl World {
     fn list_parts(&mut self, session: &[u8], listed: &Listed, listing: Opened) -> Result<(), Stop> {
         for part in listed.parts.iter() {
             self.say(part.replied);
-            self.list_part(session, *part, listing)?;
+            let done = self.list_part(session, *part, listing, false);
+            if done.is_err() {
+                self.list_rest(session, listed, listing)?;
+                return done;
+            }
+        }
+        Ok(())
+    }
+
+    /// Takes the names of a listing that nothing told so far, since they may resolve the contradiction that another one
+    /// met.
+    fn list_rest(&mut self, session: &[u8], listed: &Listed, listing: Opened) -> Result<(), Stop> {
+        for part in listed.parts.iter() {
+            self.list_part(session, *part, listing, true)?;
         }
         Ok(())
     }
@@ -46,12 +59,18 @@ impl World {
         self.teller = number;
     }
 
-    /// Takes a reply of a listing.
-    fn list_part(&mut self, session: &[u8], part: Part, listing: Opened) -> Result<(), Stop> {
+    /// Takes a reply of a listing, or only what is new in it.
+    fn list_part(
+        &mut self,
+        session: &[u8],
+        part: Part,
+        listing: Opened,
+        is_rest: bool,
+    ) -> Result<(), Stop> {
         let spelled = session.get(part.from..).unwrap_or(&[]);
         match front(self.alloc, spelled, Side::Server) {
             Ok(Some((packet, _))) => {
-                let done = self.list_packet(&packet, listing);
+                let done = self.list_packet(&packet, listing, is_rest);
                 drop(packet);
                 done
             }
@@ -60,9 +79,15 @@ impl World {
         }
     }
 
-    fn list_packet(&mut self, packet: &Packet, listing: Opened) -> Result<(), Stop> {
+    fn list_packet(
+        &mut self,
+        packet: &Packet,
+        listing: Opened,
+        is_rest: bool,
+    ) -> Result<(), Stop> {
         match packet {
             Packet::Reply(reply) => match &reply.answer {
+                Answer::Name(names) if is_rest => self.list_new(listing, names),
                 Answer::Name(names) => self.list(listing, names),
                 _ => Ok(()),
             },
@@ -75,6 +100,21 @@ impl World {
         for item in names.as_slice() {
             self.work = self.work.saturating_add(1);
             self.list_item(listing, item)?;
+        }
+        Ok(())
+    }
+
+    /// Takes the names of which nothing is known.
+    fn list_new(&mut self, listing: Opened, names: &Names) -> Result<(), Stop> {
+        for item in names.as_slice() {
+            self.work = self.work.saturating_add(1);
+            let name = item.filename.as_slice();
+            if is_name(name) && !is_dot(name) && !is_dot_dot(name) {
+                let spot = self.spot(listing.entry, name);
+                if self.held(spot).is_none() {
+                    done(self.tell(spot, sort_of(&item.attrs)))?;
+                }
+            }
         }
         Ok(())
     }

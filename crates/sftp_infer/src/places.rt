@@ -13,6 +13,16 @@ pub(crate) fn put_part(name: &[u8], text: &mut Vec<u8>) -> Result<(), Stop> {
     Ok(())
 }
 
+/// Whether one of these facts says the same.
+fn is_among(fact: &Fact, facts: &[Fact]) -> bool {
+    for other in facts {
+        if fact.is_like(other) {
+            return true;
+        }
+    }
+    false
+}
+
 impl World {
     /// Learns a fact about a place of the start.
     pub(crate) fn learn(&mut self, parent: usize, name: &[u8], says: Says) -> Result<(), Stop> {
@@ -51,10 +61,15 @@ impl World {
         }
     }
 
-    /// Proposes a fact about the place with this text.
+    /// Proposes a fact about the place with this text, unless it is proposed already.
     pub(crate) fn propose_at(&mut self, place: Vec<u8>, says: Says) {
         let told = self.replied;
-        match self.proposals.push(Fact { place, says, told }) {
+        let fact = Fact { place, says, told };
+        if is_among(&fact, self.proposals.as_slice()) {
+            drop(fact);
+            return;
+        }
+        match self.proposals.push(fact) {
             Ok(()) => {}
             Err(failed) => {
                 self.lacks_memory = true;

@@ -3,8 +3,8 @@
 
 use crate::errors::Stop;
 use crate::facts::Says;
-use crate::look::{Look, next_part};
-use crate::nodes::Sort;
+use crate::look::{Found, Look, next_part};
+use crate::nodes::{Held, Sort};
 use crate::places::put_part;
 use crate::reasons::case_of;
 use crate::targets::lengthen;
@@ -16,6 +16,9 @@ use sftp_wire::{Ask, ByteString};
 const SUSPECTS: usize = 12;
 
 const ENDS: usize = 12;
+
+/// How many entries are looked at for those that a suspect may lead to.
+const TRIED: usize = 512;
 
 /// The most names of a path at which a link is looked for.
 const NAMES: usize = 64;
@@ -81,13 +84,25 @@ impl World {
             };
             from = end;
             let found = self.look(path.get(..end).unwrap_or(&[]), false)?;
-            let look = found.look;
+            let entry = self.entry_meant(&found);
             drop(found);
-            if let Look::Entry(at) = look {
+            if let Some(at) = entry {
                 self.add_suspect(at, suspects)?;
             }
         }
         Ok(())
+    }
+
+    /// The entry to which a path leads; where nothing is now, the one that was there at the start.
+    fn entry_meant(&self, found: &Found<'_>) -> Option<usize> {
+        match found.look {
+            Look::Entry(at) => Some(at),
+            Look::Nothing(_) => match self.slot(found.spot()).start {
+                Some(Held::Entry(at)) => Some(at),
+                _ => None,
+            },
+            _ => None,
+        }
     }
 
     /// Appends an entry and the directories above it.
@@ -146,7 +161,7 @@ impl World {
     /// Proposes what an entry may be.
     fn propose_for(&mut self, at: usize) {
         let mut left = ENDS;
-        for end in 0..self.nodes.len() {
+        for end in 0..self.nodes.len().min(TRIED) {
             if left > 0 && end != at && self.may_lead_to(at, end) {
                 if self.propose_one(at, end) {
                     left = left.saturating_sub(1);
@@ -181,9 +196,15 @@ impl World {
         }
     }
 
-    /// Proposes that two files are one, and says whether both are files of the start.
+    /// Whether an entry is a file, or of no known kind.
+    fn may_be_file(&self, at: usize) -> bool {
+        let sort = self.sort(at);
+        sort == Sort::File || sort == Sort::Unknown
+    }
+
+    /// Proposes that two files are one, and says whether both may be files of the start.
     fn propose_name_of(&mut self, at: usize, end: usize) -> bool {
-        if self.sort(at) != Sort::File || self.sort(end) != Sort::File {
+        if !self.may_be_file(at) || !self.may_be_file(end) {
             return false;
         }
         match self.old_text(end) {
