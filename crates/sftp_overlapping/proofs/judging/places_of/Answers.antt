@@ -22,7 +22,8 @@ returns-in-Ok-clause-read g c = λ known each has are.
 pub returns-in-Err-clause-refused : goal.returns-in-Err-clause-refused
 returns-in-Err-clause-refused g c = λ judged known each has are places is.
     let bytes = c.as_slice.ensures.value ∙ c.in_ok-bytes.ensures.read known has in
-    places-refused _ _ c.in-Err.error c.in-Err.ensures.refused (c.rejection_of_places.ensures judged) places
+    places-refused c.as_slice.result.now (map name_in c.args.members.now) c.in-Err.error
+    c.in-Err.ensures.refused (c.rejection_of_places.ensures judged) places
     (subst (λ (xs : List ℕ). HasPlaces xs (map name_in c.args.members.now) places) (sym bytes)
     (subst (λ (names : List (List ℕ)). HasPlaces known names places)
     (names_are g.T.Opens.bytes c.args.members.now each are) is))
