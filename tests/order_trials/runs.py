@@ -19,9 +19,11 @@ def room():
         yield folder
 
 
-def together(folder, *words, tree="start.tree", records="set"):
-    """The status of a run on the set in a folder, and what it printed."""
+def together(folder, *words, tree="start.tree", records="set", program=None):
+    """The status of a run on the set in a folder, and what it printed. The program is the usual one, unless one is
+    given."""
+    environment = os.environ if program is None else {**os.environ, "SFTPV3": program}
     done = subprocess.run([sys.executable, TOGETHER, os.path.join(folder, records), "--tree",
                            os.path.join(folder, tree), *words], stdin=subprocess.DEVNULL, stdout=subprocess.PIPE,
-                          stderr=subprocess.STDOUT, timeout=HUNG, check=False)
+                          stderr=subprocess.STDOUT, timeout=HUNG, check=False, env=environment)
     return done.returncode, done.stdout.decode(errors="replace").strip()

@@ -135,14 +135,19 @@ def in_parts(steps, folder):
         steps.check(f"and whole: {name}", together(folder)[0] == 1)
 
 
-def torn(steps, folder):
-    """A READ shows the first half of one state and the second half of another one."""
+def torn_set(folder):
+    """A READ that shows the first half of one state and the second half of another one."""
     entries = [trees.Entry(b"/f", trees.FILE, b"aaaaaaaa", 0, 0, 0o644)]
     writer = Session().ask(0, 10, ("OPEN", b"/f", WRITE, {}), OPENED)
     writer.ask(100, 200, ("WRITE", HANDLE, 0, b"bbbbbbbb"), OK)
     reader = Session().ask(0, 10, ("OPEN", b"/f", READ, {}), OPENED)
     reader.ask(100, 200, ("READ", HANDLE, 0, 8), ("DATA", b"aaaabbbb"))
     sets.put(folder, {"a": reader, "b": writer}, entries=entries)
+
+
+def torn(steps, folder):
+    """Such a READ is explained in pieces that end where the states do."""
+    torn_set(folder)
     steps.check("a torn READ is refused", together(folder)[0] == 1)
     steps.check("--torn 4 explains it", together(folder, "--torn", "4") == (
         0, "accepted 4 requests in 2 sessions, 1 of them in parts"), together(folder, "--torn", "4"))
@@ -171,6 +176,38 @@ def orders(steps, folder):
     steps.check("nor with one that the clock contradicts", found[0] == 4 and "place 2" in found[1], found)
 
 
+# A program that accepts every transcript, but refuses each set; and one that says nothing of sets.
+REFUSING = """#!/bin/sh
+case " $* " in *" --together "*)
+    echo '{"verdict":"refused","transcript":"00001.transcript","record":4,"kind":"Clock","place":2,"text":"why"}'
+    exit 1
+esac
+echo 'accepted 2 requests'
+"""
+SILENT = """#!/bin/sh
+case " $* " in *" --together "*) exit 2 ;; esac
+echo 'accepted 2 requests'
+"""
+
+
+def not_by_itself(steps, folder):
+    """Nothing is accepted that the program does not accept as a set: of whole requests, and of requests in parts."""
+    sets.put(folder, {"a": remover(), "b": lock(150, 250, ABSENT)}, entries=LOCK)
+    name = os.path.join(folder, "program")
+    for why, text, wanted in (
+            ("refuses", REFUSING, (4, "undecided: sftpv3 audit does not accept the order: b.transcript record 4: Clock "
+                                      "at place 2: why")),
+            ("fails", SILENT, (3, "together: sftpv3 audit ended with status 2:"))):
+        sets.write(name, text.encode())
+        os.chmod(name, 0o755)
+        found = together(folder, program=name)
+        steps.check(f"a set that the program {why} is not accepted", (found[0], found[1].strip()) == wanted, found)
+    sets.write(name, REFUSING.encode())
+    torn_set(folder)
+    found = together(folder, "--torn", "4", program=name)
+    steps.check("nor is one with requests in parts", found[0] == 4 and "does not accept" in found[1], found)
+
+
 def bounded(steps, folder):
     sets.put(folder, {"a": remover(), "b": lock(150, 250, ABSENT)}, entries=LOCK)
     found = together(folder, "--steps", "1")
@@ -178,4 +215,4 @@ def bounded(steps, folder):
 
 
 TRIALS = (overlapping, in_sequence, not_modelled, beyond, in_pages, handles, without_reply, in_parts, torn, orders,
-          bounded)
+          not_by_itself, bounded)

@@ -13,6 +13,7 @@ use Rattle.sftp_profile.specs.declared.profiles.NewOwner.TheVariants.{User, Give
 use Rattle.sftp_profile.specs.Profiles.{strict, posix, posix_user}
 use Rattle.sftp_profile.specs.Profiles.{with_name}
 use Rattle.sftp_verdicts.specs.declared.asked.AuditOptions.{AuditOptions}
+use Rattle.sftp_overlapping.specs.declared.asked.TogetherOptions.{TogetherOptions}
 use Rattle.sftp_options.specs.declared.command_line.Request.{Request}
 use Rattle.sftp_options.specs.declared.command_line.Request.TheVariants as requests
 use Rattle.sftp_tar.specs.declared.choices.LimitChoice.{LimitChoice}
@@ -135,6 +136,15 @@ LacksFile rows = (value_in rows (codes "tree") ≡ None) ⊎ (value_in rows (cod
 abbrev pub IsAuditRequest : List Row → Request → Type 0
 IsAuditRequest rows (requests.Audit asked) = IsAuditAsked rows asked
 IsAuditRequest rows other = ⊥
+
+-- the options of an audit of several sessions together that its verdict depends on, but for the files of the sessions
+-- and the tolerance
+pub record IsTogetherAsked (rows : List Row) (asked : TogetherOptions) : Type 0 where
+  pub tree : value_in rows (codes "tree") ≡ Some asked.tree.now
+  pub order : value_in rows (codes "order") ≡ Some asked.order.now
+  pub out : value_in rows (codes "out") ≡ option_map (λ name. name.now) asked.out
+  pub profile : asked.profile ≡ profile_asked (options_in rows)
+  pub umask : value_in rows (codes "umask") ≡ option_map (λ digits. digits.now) asked.umask
 
 -- ==== What the options of `import` say.
 

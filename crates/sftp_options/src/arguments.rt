@@ -25,6 +25,12 @@ pub(crate) enum Form<'a> {
     OneOf(&'a str, &'a [&'a str]),
     /// `--NAME VALUE,...`, which are some of these.
     SomeOf(&'a str, &'a [&'a str]),
+    /// `--NAME VALUE`, which needs the argument of this name and can be given with none of those.
+    With(&'a str, &'a str, &'a [&'a str]),
+    /// The same of a number below 2^64.
+    NumberWith(&'a str, &'a str, &'a [&'a str]),
+    /// The same of several values.
+    Several(&'a str, &'a str, &'a [&'a str]),
 }
 
 const FILE: Form = Form::Place("FILE");
@@ -122,6 +128,19 @@ pub(crate) const SERVE: &[Argument] = &[
     NO_SYNC,
 ];
 
+/// What cannot be asked of sessions that are judged together.
+const NOT_TOGETHER: &[&str] = &[
+    "transcript",
+    "transcripts-from",
+    "files",
+    "explain",
+    "cut",
+    "keep-going",
+    "most",
+    "progress",
+    "memory",
+];
+
 pub(crate) const AUDIT: &[Argument] = &[
     TREE,
     (
@@ -133,6 +152,21 @@ pub(crate) const AUDIT: &[Argument] = &[
         "transcripts-from",
         Form::Optional("LIST"),
         "A file with the name of a transcript on each line; each is audited, and has a line of its own",
+    ),
+    (
+        "together",
+        Form::Several("FILE", "order", NOT_TOGETHER),
+        "NAME.transcript and NAME.times of sessions that overlapped, which are judged together",
+    ),
+    (
+        "order",
+        Form::With("FILE", "together", NOT_TOGETHER),
+        "With --together: the order of all requests, which is judged",
+    ),
+    (
+        "tolerance",
+        Form::NumberWith("US", "together", NOT_TOGETHER),
+        "With --together: how many microseconds times of two sessions may be wrong, 0 by default",
     ),
     (
         "out",

@@ -12,12 +12,13 @@ ghost use Rattle.sftp_options.specs.Options.{IsAuditAsked, IsAuditRequest, Lacks
 use crate::arguments::{
     AUDIT, Argument, BLANK, DIFF, EXPORT, Form, IMPORT, INFER, MAKE, RAISE, SERVE, SHOW,
 };
-use crate::{help, importing, profiles, searching, several};
+use crate::{help, importing, profiles, searching, several, together};
 use clap::error::ErrorKind;
 use clap::{Arg, ArgAction, ArgMatches, Command, Error, value_parser};
 use sftp_files::{
     DiffForm, Failure, ImportOptions, Keeping, MORE, PRIVATE, RaiseTo, ServeOptions, ShowOptions,
 };
+use sftp_overlapping::TogetherOptions;
 use sftp_vary::{Freedoms, Style, Variation, Words};
 use sftp_verdicts::{AuditOptions, EachOptions, InferOptions, octal};
 use std::alloc::{AllocError, Global};
@@ -29,6 +30,8 @@ pub enum Request<'a> {
     Serve(ServeOptions<'a>, Style),
     /// Audit a session.
     Audit(AuditOptions<'a>),
+    /// Audit sessions that overlapped, together.
+    AuditTogether(TogetherOptions<'a>),
     /// Audit the sessions of several transcripts, each by itself.
     AuditEach(EachOptions<'a>),
     /// Infer a tree from a session, and audit the session with it.
@@ -165,6 +168,9 @@ fn request_of<'a>(
     alloc: Global,
     matches: &ArgMatches<'a>,
 ) -> Result<Option<Request<'a>>, AllocError> {
+    if let Some(request) = together::request_of(alloc, matches)? {
+        return Ok(Some(request));
+    }
     match several::request_of(alloc, matches)? {
         Some(request) => Ok(Some(request)),
         None => Ok(requested(matches)),
@@ -463,14 +469,33 @@ fn with_arguments<'a>(
 ) -> Result<Command<'a>, AllocError> {
     let mut command = command;
     for (name, form, help) in arguments {
-        command = command.arg(new_argument(alloc, name, *form, help))?;
+        command = with_argument(command, new_argument(alloc, name, *form, help))?;
     }
     Ok(command)
 }
 
-fn new_argument<'a>(alloc: Global, name: &'a str, form: Form<'a>, help: &'a str) -> Arg<'a> {
+/// The command with a further argument.
+fn with_argument<'a>(
+    command: Command<'a>,
+    argument: Result<Arg<'a>, AllocError>,
+) -> Result<Command<'a>, AllocError> {
+    match argument {
+        Ok(argument) => command.arg(argument),
+        Err(error) => {
+            drop(command);
+            Err(error)
+        }
+    }
+}
+
+fn new_argument<'a>(
+    alloc: Global,
+    name: &'a str,
+    form: Form<'a>,
+    help: &'a str,
+) -> Result<Arg<'a>, AllocError> {
     let arg = Arg::new(alloc, name).help(help);
-    match form {
+    Ok(match form {
         Form::Flag => arg.long(name).action(ArgAction::SetTrue),
         Form::Place(label) => valued(arg, label).required(true),
         Form::Places(label) => arg.value_name(label).num_args(1..),
@@ -479,7 +504,28 @@ fn new_argument<'a>(alloc: Global, name: &'a str, form: Form<'a>, help: &'a str)
         Form::Number(label) => { valued(arg.long(name), label).value_parser(value_parser!(u64)) }
         Form::OneOf(label, values) => valued(arg.long(name), label).value_parser(values),
         Form::SomeOf(label, values) => listed(arg.long(name), label, values),
-    }
+        Form::With(label, other, excluded) => {
+            return with_others(valued(arg.long(name), label), other, excluded);
+        }
+        Form::NumberWith(label, other, excluded) => {
+            let arg = valued(arg.long(name), label).value_parser(value_parser!(u64));
+            return with_others(arg, other, excluded);
+        }
+        Form::Several(label, other, excluded) => {
+            let arg = arg.long(name).value_name(label).num_args(1..);
+            return with_others(arg.action(ArgAction::Append), other, excluded);
+        }
+    })
+}
+
+/// The argument, which needs another one and can be given with none of those.
+fn with_others<'a>(
+    arg: Arg<'a>,
+    other: &'a str,
+    excluded: &[&'a str],
+) -> Result<Arg<'a>, AllocError> {
+    let arg = arg.requires_arg(other)?;
+    arg.conflicts_with_all(excluded)
 }
 
 /// The argument with a value, which help calls by this label.

@@ -347,6 +347,17 @@ the tree, which is read once. Each has a line that begins with its name, in the 
 The status is the worst of all. --json prints an object for each, --progress how many are done; --out, --keep-going and
 --tree unknown are for one transcript alone, and --explain needs --json.
 
+With --together, the sessions of all FILEs, which overlapped on one tree, are judged by one order of all their requests.
+Of each session there is a file NAME.transcript and a file NAME.times, and the order has just these names. It prints
+'accepted N requests in M sessions'; or 'refused: TRANSCRIPT record N: KIND at place P of the order: WHY', where KIND
+may also be:
+
+  NothingLeft   the session that has this place has no request left
+  Clock         the request had its reply, more than the tolerance, before a request at an earlier place was asked
+  LeftOut       the order has no place for the request
+
+All times are on the clock of one boot, or all are dates. That it is refused says nothing of other orders.
+
 With --json, standard output has one JSON object in every case: the verdict with the parts of the explanation, or the
 failure; with --keep-going one for each finding, and one for the last line. The statuses are the same.
 

@@ -9,5 +9,6 @@ mod profiles;
 mod requests;
 mod searching;
 mod several;
+mod together;
 
 pub use command_line::{Request, parse};

@@ -7,6 +7,7 @@ impl<'a> Request<'a> {
         match self {
             Request::Audit(files) => files.is_json,
             Request::AuditEach(options) => options.asked.is_json,
+            Request::AuditTogether(options) => options.is_json,
             Request::Infer(options) => options.is_json,
             Request::Show(options) => options.is_json,
             Request::Diff { form, .. } => form.is_json,
@@ -20,6 +21,7 @@ impl<'a> Request<'a> {
             Request::Serve(options, _) => Some(options.tree),
             Request::Audit(files) => Some(files.tree),
             Request::AuditEach(options) => Some(options.asked.tree),
+            Request::AuditTogether(options) => Some(options.tree),
             Request::Raise { tree, .. } => Some(*tree),
             Request::Export { file, .. } => Some(*file),
             _ => self.shown(),

@@ -199,6 +199,7 @@ where
         }
         Request::Audit(files) => subcommands::audit(rt, files, output, errors),
         Request::AuditEach(options) => sftp_auditing::audit_each(rt, options, output, errors),
+        Request::AuditTogether(options) => { sftp_overlapping::audit_together(rt, options, output) }
         Request::Infer(options) => sftp_inferring::infer(rt, options, output, errors),
         Request::Blank { file, keeping } => subcommands::blank(rt, file, *keeping),
         Request::Raise {

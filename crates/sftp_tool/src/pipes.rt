@@ -32,7 +32,7 @@ pub(crate) fn is_silent(request: &Request<'_>, failure: &Failure<'_>) -> bool {
 fn gives_verdict(request: &Request<'_>) -> bool {
     matches!(
         request,
-        Request::Audit(_) | Request::AuditEach(_) | Request::Infer(_)
+        Request::Audit(_) | Request::AuditEach(_) | Request::AuditTogether(_) | Request::Infer(_)
     )
 }
 

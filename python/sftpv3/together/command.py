@@ -5,11 +5,10 @@ import argparse
 import gc
 import json
 import os
-import tempfile
 from typing import Any, Optional
 
-from sftpv3.together import (checking, exactness, explaining, inventing, judging, merging, orders, others, profiles,
-                             searching, teaching)
+from sftpv3.together import (certifying, checking, exactness, explaining, inventing, judging, merging, orders, others,
+                             profiles, searching, teaching)
 from sftpv3.together.checking import Place
 from sftpv3.together.deeds import Deed
 from sftpv3.together.options import (ACCEPTED, FAILED, REFUSED, STEPS, STEPS_EACH, TOLERANCE_OF_DATES, UNDECIDED,
@@ -17,6 +16,9 @@ from sftpv3.together.options import (ACCEPTED, FAILED, REFUSED, STEPS, STEPS_EAC
 from sftpv3.together.outside import Malformed, NotBuilt, kinds, place_of, put, trees
 from sftpv3.together.sets import TIMES, TRANSCRIPT, Unfit, read_set
 from sftpv3.together.states import State
+
+# The nanoseconds of a microsecond.
+MICROSECOND = 1_000
 
 STATUS = {"accepted": ACCEPTED, "refused": REFUSED, "undecided": UNDECIDED}
 
@@ -53,7 +55,7 @@ class Command:
         if given.write_others and os.path.basename(given.write_others) in (it.name for it in self.sessions):
             raise Unfit(f"{given.write_others}: a session of the set has this name")
         usual = 0 if is_of_boot else TOLERANCE_OF_DATES
-        self.tolerance = 1000 * (usual if given.tolerance is None else given.tolerance)
+        self.tolerance = MICROSECOND * (usual if given.tolerance is None else given.tolerance)
 
     def state(self) -> State:
         return State(self.tree, len(self.sessions) + 1)
@@ -105,20 +107,26 @@ class Command:
         return order.places
 
     def judge(self, places: list[Place]) -> Verdict:
-        """Has an order checked."""
+        """Has an order judged by `sftpv3 audit --together`, after a look at its parts and at its length."""
         piece = self.given.parts.piece
         spans = [[merging.span_of(deed, piece) for deed in deeds] for deeds in self.deeds]
         why = checking.first_fault(spans, places, self.tolerance)
         if why:
             return Verdict("undecided", f"undecided: the order is none: {why}", why=why)
-        with tempfile.TemporaryDirectory(prefix="sftpv3-together-") as folder:
-            name = self.given.write_transcript or os.path.join(folder, "merged.transcript")
-            judging.write(name, merging.merged(self.deeds, places, piece))
-            found = judging.audit(self.given.tree, name, profiles.words_of(self.given))
-        if found.status != judging.ACCEPTED:
-            return Verdict("undecided", f"undecided: sftpv3 audit does not accept the order: {found.said}",
-                           why=found.said)
-        return self.accepted(places)
+        if self.given.write_transcript:
+            judging.write(self.given.write_transcript, merging.merged(self.deeds, places, piece))
+        certificate = certifying.Certificate(self.sessions, places, piece)
+        found = judging.audit(self.given.tree, self.given.folder, certificate, self.tolerance // MICROSECOND,
+                              profiles.words_of(self.given))
+        return self.accepted(places) if found.status == judging.ACCEPTED else self.not_accepted(found.told)
+
+    def not_accepted(self, told: dict[str, Any]) -> Verdict:
+        """The program refuses the order."""
+        session = self.sessions[certifying.number_of(told["transcript"])]
+        where = session.file() + (f" record {told['record']}" if "record" in told else "")
+        at = f" at place {told['place']}" if "place" in told else ""
+        why = f"{where}: {told['kind']}{at}: {told['text']}"
+        return Verdict("undecided", f"undecided: sftpv3 audit does not accept the order: {why}", why=why)
 
     def accepted(self, places: list[Place]) -> Verdict:
         self.write(places)

@@ -64,16 +64,23 @@ def tagged(packet: packets.Packet, number: int, session: int) -> bytes:
     return packets.encode(packets.Packet(number, packet.name, fields))
 
 
-def merged(sessions: list[list[Deed]], places: Iterable[Place], piece: int) -> Iterator[bytes]:
-    """The transcript, piece by piece."""
-    yield transcripts.put_records(transcripts.BEGUN)
-    nexts, had, number = [0] * len(sessions), [0] * len(sessions), 0
+def steps_of(sessions: list[list[Deed]], places: Iterable[Place], piece: int) -> Iterator[tuple[Deed, int]]:
+    """The request at each place, and the number of the part."""
+    nexts, had = [0] * len(sessions), [0] * len(sessions)
     for session, part in places:
         deed = sessions[session][nexts[session]]
         had[session] += 1
         if part in (WHOLE, LEFT_OUT) or had[session] == part_count(deed, piece):
             nexts[session], had[session] = nexts[session] + 1, 0
+        yield deed, part
+
+
+def merged(sessions: list[list[Deed]], places: Iterable[Place], piece: int) -> Iterator[bytes]:
+    """The transcript, piece by piece."""
+    yield transcripts.put_records(transcripts.BEGUN)
+    number = 0
+    for deed, part in steps_of(sessions, places, piece):
         if part != LEFT_OUT:
             number += 1
             request, reply = pair_of(deed, part, piece)
-            yield CLIENT + tagged(request, number, session) + SERVER + tagged(reply, number, session)
+            yield CLIENT + tagged(request, number, deed.session) + SERVER + tagged(reply, number, deed.session)

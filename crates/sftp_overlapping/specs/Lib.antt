@@ -1,0 +1,2 @@
+-- What is said of a set of sessions.
+pub mod Sets
